@@ -3,6 +3,7 @@
 ghost use Rattle.std.specs.Prelude.{◌≡◌, ◌<◌, ◌^◌, ◌↔◌, ◌∷◌, ◌++◌, [], length, IsTrue, IfOk, IfErr, IfSome, OnOk, slice_get};
 ghost use Rattle.call_script.specs.Scripts.{IsFaultOf, Spells};
 
+use kept_bytes::KeptBytes;
 use octets::{Memory, Octets};
 use sched_text::{CallLine, Lines, call_of};
 use std::alloc::Global;
@@ -10,7 +11,7 @@ use std::error::Error;
 use std::fmt;
 use std::marker::Model;
 
-/// A call of a script and the number of its line, from 1.
+/// A call of a script and the number of its line, from 1: what contracts see of a call that a `Script` keeps.
 #[derive(Debug, Drop)]
 pub struct ScriptCall {
     /// The bytes of its body.
@@ -52,10 +53,59 @@ impl From<Memory> for ScriptFault {
     }
 }
 
-/// The calls of a script, each with the number of its line. Contracts see the list of these.
+/// A `ScriptCall` as it is kept.
+#[derive(Debug, Drop)]
+struct Row {
+    body: KeptBytes,
+    after: Option<u64>,
+    line: u32,
+}
+
+impl Model for Row {
+    ghost use Rattle.call_script.specs.declared.script.ScriptCall.{ScriptCall};
+
+    ghost Value = { ScriptCall };
+
+    ghost view = { λ row. record { body = row.body; after = row.after; line = row.line } };
+}
+
+impl Row {
+    // The call of a line with this number.
+    fn new(call: CallLine, line: u32) -> Row
+        ensures { result ≡ record { body = call.body; after = call.after; line = line } }
+    {
+        let CallLine { body, after } = call;
+        Row {
+            body: KeptBytes::from(body),
+            after,
+            line,
+        }
+    }
+
+    fn body(&self) -> &[u8]
+        ensures { result.now ≡ self.now.body }
+    {
+        self.body.as_slice()
+    }
+
+    fn after(&self) -> Option<u64>
+        ensures { result ≡ self.now.after }
+    {
+        self.after
+    }
+
+    fn line(&self) -> u32
+        ensures { result ≡ self.now.line }
+    {
+        self.line
+    }
+}
+
+/// The calls of a script, each with the number of its line. Contracts see the list of these. A call whose body has up to 30
+/// bytes takes no memory beside its row.
 #[derive(Debug, Drop)]
 pub struct Script {
-    calls: Vec<ScriptCall>,
+    calls: Vec<Row>,
 }
 
 impl Model for Script {
@@ -87,7 +137,7 @@ impl Script {
         requires { k < length self.now }
         ensures { IfSome (slice_get self.now k) (λ call. result.now ≡ call.body) }
     {
-        self.calls[k].body.as_slice()
+        self.calls[k].body()
     }
 
     /// The call, counted from 1, that the call at a place waits for; none exactly where its line has no
@@ -96,7 +146,7 @@ impl Script {
         requires { k < length self.now }
         ensures { IfSome (slice_get self.now k) (λ call. result ≡ call.after) }
     {
-        self.calls[k].after
+        self.calls[k].after()
     }
 
     /// The number of the line of the call at a place. Lines count from 1.
@@ -104,7 +154,7 @@ impl Script {
         requires { k < length self.now }
         ensures { IfSome (slice_get self.now k) (λ call. result ≡ call.line) }
     {
-        self.calls[k].line
+        self.calls[k].line()
     }
 }
 
@@ -124,14 +174,14 @@ pub fn read_script(alloc: Global, text: &[u8]) -> Result<Script, ScriptFault>
         let Some(call) = call_of(alloc, words)? else {
             return Err(ScriptFault::BadLine { line });
         };
-        let CallLine { body, after } = call;
-        append(&mut calls, ScriptCall { body, after, line })?;
+        let row = Row::new(call, line);
+        append(&mut calls, row)?;
     }
     Ok(Script { calls })
 }
 
 // Puts a call at the end.
-fn append(calls: &mut Vec<ScriptCall>, last: ScriptCall) -> Result<(), Memory>
+fn append(calls: &mut Vec<Row>, last: Row) -> Result<(), Memory>
     ensures { OnOk result (calls.new.items ≡ calls.old.items ++ last ∷ []) }
 {
     calls.push(last)?;

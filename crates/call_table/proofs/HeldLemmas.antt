@@ -65,6 +65,10 @@ pub earlier_given : (after : Option CallNo) (place : ℕ) (rows : List Row) → 
 earlier_given None place rows within h = tt
 earlier_given (Some one) place rows within h = (h.0, omega (arith, h.1))
 
+pub given_few : (after : Option CallNo) (rows : List Row) → length rows < calls_max → IfSome after (λ one. IsGiven one rows) → IfSome after (λ one. one.n < calls_max)
+given_few None rows few h = tt
+given_few (Some one) rows few h = omega (arith, few, h.1)
+
 pub earlier_below : (after : Option CallNo) (place n : ℕ) → place < n → IfSome after (IsEarlier place) → IfSome after (λ one. one.n < n)
 earlier_below None place n within h = tt
 earlier_below (Some one) place n within h = omega (arith, h.1)

@@ -7,9 +7,10 @@ use crate::call::{CallNo, CallState, Fate, Flags, Group, Living, Under};
 use crate::groups::Groups;
 use crate::names::{Named, are_below, find, forget};
 use crate::packet::Packet;
-use crate::row::{Progress, Row, progress_after, under_again};
+use crate::row::Row;
 use circular_buffer::HeapCircularBuffer;
-use octets::{IdList, Memory, Octets};
+use kept_bytes::KeptBytes;
+use octets::{IdList, Memory};
 use std::alloc::Global;
 use std::collections::VecDeque;
 use std::marker::Model;
@@ -22,12 +23,6 @@ pub const ACKS_MAX: usize = 8_192;
 
 /// The most packets that are remembered.
 pub const PACKETS_MAX: usize = 64;
-
-/// Nothing is to be done about a call.
-const NO_FLAGS: Flags = Flags {
-    alone: false,
-    dropping: false,
-};
 
 /// The calls of a client, at most 65,536; the acknowledgements that wait, at most 8,192; and the packets that are
 /// remembered, at most 64. None but `new`, `add` and `reserve` takes memory.
@@ -117,16 +112,11 @@ impl Calls {
         ensures unchanged_on_memory { OnErr result (self.new ≡ self.old) }
     {
         let place = self.rows.len();
-        let body = Octets::copy(alloc, body)?;
+        let body = KeptBytes::copy(alloc, body)?;
         self.rows.reserve(1)?;
         self.groups.reserve(place + 1)?;
-        let row = Row {
-            body,
-            after,
-            progress: Progress::Queued,
-            flags: NO_FLAGS,
-        };
-        self.groups.enter(place as u32, &row);
+        let row = Row::new(body, after);
+        self.groups.enter(place as u16, &row);
         self.rows.push_reserved(row);
         Ok(CallNo {
             n: place as u64 + 1,
@@ -148,7 +138,7 @@ impl Calls {
         ensures kept { option_map (λ row. row.body) (at call self.now.rows) ≡ Some result.now }
         ensures body { (table : Table) → Stands self.now table → option_map (λ one. one.body) (at call table.calls) ≡ Some result.now }
     {
-        self.rows[place_of(call)].body.as_slice()
+        self.rows[place_of(call)].body()
     }
 
     /// The earlier call after which a call that this table gave is to execute; none exactly where it was submitted
@@ -160,7 +150,7 @@ impl Calls {
         ensures earlier { IfSome result (λ one. one.n < call.n) }
         ensures after { (table : Table) → Stands self.now table → option_map (λ one. one.after) (at call table.calls) ≡ Some result }
     {
-        self.rows[place_of(call)].after
+        self.rows[place_of(call)].after()
     }
 
     /// The message under which a call that this table gave is outstanding; none exactly where the call isn't `Sent`.
@@ -189,7 +179,7 @@ impl Calls {
         ensures unmarked { state_in call self.now.rows ≢ Some Sent → result ≡ no_flags }
         ensures flags { (table : Table) → Stands self.now table → option_map (λ one. one.flags) (at call table.calls) ≡ Some result }
     {
-        self.rows[place_of(call)].flags
+        self.rows[place_of(call)].flags()
     }
 
     /// The outstanding call of a message identifier; none exactly where there is none.
@@ -278,11 +268,8 @@ impl Calls {
         });
         self.reserved -= 1;
         let row = &mut self.rows[place];
-        row.progress = Progress::Sent {
-            living,
-            under: under_again(Under::Zero, salt),
-        };
-        self.groups.enter(place as u32, row);
+        row.send(living, salt);
+        self.groups.enter(place as u16, row);
     }
 
     /// The living message of a `Sent` call was sent once more, under this salt. Room for it is reserved.
@@ -307,9 +294,8 @@ impl Calls {
         let place = place_of(call);
         let row = &mut self.rows[place];
         forget(&mut self.names, row.number());
-        row.progress = progress_after(fate);
-        row.flags = NO_FLAGS;
-        self.groups.enter(place as u32, row);
+        row.settle(fate);
+        self.groups.enter(place as u16, row);
     }
 
     /// Says what is to be done about a `Sent` call, in place of what was said before.
@@ -321,8 +307,8 @@ impl Calls {
     {
         let place = place_of(call);
         let row = &mut self.rows[place];
-        row.flags = flags;
-        self.groups.enter(place as u32, row);
+        row.set_flags(flags);
+        self.groups.enter(place as u16, row);
     }
 
     /// How many acknowledgements wait.

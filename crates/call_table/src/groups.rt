@@ -1,5 +1,5 @@
-//! The places of the calls of each group, in call order. They are searched by halving; where a place enters or leaves,
-//! those behind it or before it move, whichever are fewer.
+//! The places of the calls of each group, in call order, two bytes each. They are searched by halving; where a place
+//! enters or leaves, those behind it or before it move, whichever are fewer.
 
 ghost use Rattle.std.specs.Prelude.{◌≡◌, ◌<◌, ◌≤◌, ◌^◌, ◌==◌, [], IfOk, OnOk, length, slice_get};
 ghost use Rattle.std.specs.VecDeque.{deque_capacity};
@@ -14,7 +14,7 @@ use std::alloc::Global;
 use std::collections::VecDeque;
 
 /// How many of these places are below this one.
-fn place_of(places: &VecDeque<u32>, member: u32) -> usize
+fn place_of(places: &VecDeque<u16>, member: u16) -> usize
     requires { Rises places.now.items }
     ensures place { result ≡ place member places.now.items }
     ensures within { result ≤ length places.now.items }
@@ -23,14 +23,14 @@ fn place_of(places: &VecDeque<u32>, member: u32) -> usize
 }
 
 /// Whether this member stands at a place of the list.
-fn is_at(places: &VecDeque<u32>, at: usize, member: u32) -> bool
+fn is_at(places: &VecDeque<u16>, at: usize, member: u16) -> bool
     ensures { result ≡ passes (λ one. one == member) (slice_get places.now.items at) }
 {
     at < places.len() && places[at] == member
 }
 
 /// Puts a place among the others, or takes it out.
-pub(crate) fn put(places: &mut VecDeque<u32>, member: u32, enters: bool)
+pub(crate) fn put(places: &mut VecDeque<u16>, member: u16, enters: bool)
     requires ascending { Rises places.old.items }
     requires room { length places.old.items < deque_capacity places.old }
     ensures placed { places.new.items ≡ with_member member enters places.old.items }
@@ -52,15 +52,15 @@ pub(crate) fn put(places: &mut VecDeque<u32>, member: u32, enters: bool)
 /// The places of the calls of each group.
 #[derive(Debug, Drop)]
 pub(crate) struct Groups {
-    pub(crate) queued: VecDeque<u32>,
-    pub(crate) outstanding: VecDeque<u32>,
-    pub(crate) held: VecDeque<u32>,
-    pub(crate) alone: VecDeque<u32>,
-    pub(crate) dropping: VecDeque<u32>,
+    pub(crate) queued: VecDeque<u16>,
+    pub(crate) outstanding: VecDeque<u16>,
+    pub(crate) held: VecDeque<u16>,
+    pub(crate) alone: VecDeque<u16>,
+    pub(crate) dropping: VecDeque<u16>,
 }
 
 /// Takes room for so many places in all.
-fn make_room(places: &mut VecDeque<u32>, room: usize) -> Result<(), Memory>
+fn make_room(places: &mut VecDeque<u16>, room: usize) -> Result<(), Memory>
     ensures room { OnOk result (room ≤ deque_capacity places.new) }
     ensures places { places.new.items ≡ places.old.items }
     ensures capacity { deque_capacity places.old ≤ deque_capacity places.new }
@@ -101,7 +101,7 @@ impl Groups {
     }
 
     /// Puts a call's place into the groups of which it is one, and takes it out of the others.
-    pub(crate) fn enter(&mut self, place: u32, row: &Row)
+    pub(crate) fn enter(&mut self, place: u16, row: &Row)
         requires ascending { (group : Group) → Rises (places_in group self.old) }
         requires room { (group : Group) → length (places_in group self.old) < capacity_in group self.old }
         ensures placed { (group : Group) → places_in group self.new ≡ with_member place (is_row_in group row.now) (places_in group self.old) }
@@ -115,7 +115,7 @@ impl Groups {
     }
 
     /// The places of a group.
-    pub(crate) fn of(&self, group: Group) -> &VecDeque<u32>
+    pub(crate) fn of(&self, group: Group) -> &VecDeque<u16>
         ensures { result.now.items ≡ places_in group self.now }
     {
         match group {

@@ -16,3 +16,4 @@ mod row;
 
 pub use call::{CallNo, CallState, Cause, Fate, Flags, Group, Living, Under};
 pub use calls::{ACKS_MAX, CALLS_MAX, Calls, PACKETS_MAX};
+pub use row::Progress;

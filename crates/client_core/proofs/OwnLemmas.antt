@@ -16,7 +16,8 @@ use Rattle.client_rules.specs.Client.{Binding, Client, Needed, StateRequest, Tem
 use Rattle.client_rules.specs.Events.{fate_renewed, renewed}
 use Rattle.client_rules.specs.Filling.{numbers_max}
 use Rattle.client_rules.specs.Learning.{each_becomes, ended, fate_at_end, fate_learning, learn, learnt_max, learns, settled_if, with_clock}
-use Rattle.client_rules.specs.Taking.{Notice, alone_among, alone_call, alone_number, asks_answer, binding_noticed, goes_again, has_asked, is_asked_by, is_for, is_odd, message_in, messages_of, noticed_by, packet_noticed, take, takes_message, takes_over, told_of, told_state, told_states, with_notice_clock, with_notice_salt, without_idle_wish}
+use Rattle.client_rules.specs.Taking.{Notice, alone_among, alone_call, alone_number, asks_answer, binding_noticed, goes_again, has_asked, is_asked_by, is_for, message_in, messages_of, noticed_by, packet_noticed, take, takes_message, takes_over, told_of, told_state, told_states, with_notice_clock, with_notice_salt, without_idle_wish}
+use Rattle.msg_ids.specs.Counters.{is_odd}
 use Rattle.client_core.specs.declared.brought.Brought.{Brought}
 use Rattle.client_core.specs.declared.brought.Brought.TheVariants as brought
 use Rattle.client_core.specs.declared.brought.Incoming.{Incoming}

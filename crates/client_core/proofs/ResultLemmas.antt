@@ -16,7 +16,8 @@ use Rattle.client_rules.specs.Client.{Client, StateRequest, at_moment, calls_of,
 use Rattle.client_rules.specs.Asking.{alone}
 use Rattle.client_rules.specs.Filling.{numbers_max}
 use Rattle.client_rules.specs.Learning.{ended, fate_at_end, fate_learning, learn, learnt_max, learns, settled_if, with_clock}
-use Rattle.client_rules.specs.Taking.{Notice, acknowledges, asks_answer, without_idle_wish, alone_call, alone_number, answered_by, fate_noticed, goes_again, is_odd, message_in, messages_of, noticed_by, row, take, takes_message, takes_over, told_of, told_state, told_states, with_notice_salt}
+use Rattle.client_rules.specs.Taking.{Notice, acknowledges, asks_answer, without_idle_wish, alone_call, alone_number, answered_by, fate_noticed, goes_again, message_in, messages_of, noticed_by, row, take, takes_message, takes_over, told_of, told_state, told_states, with_notice_salt}
+use Rattle.msg_ids.specs.Counters.{is_odd}
 use Rattle.client_core.specs.Results.{BringsResult, taken_of}
 use Rattle.octets.specs.declared.memory.Memory.{Memory}
 use Rattle.call_table.specs.Kept.{Contents as Calls, Stands as StandsFor, state_in}

@@ -12,7 +12,8 @@ use Rattle.call_table.specs.Table.{acknowledged, owner}
 use Rattle.client_rules.specs.Client.{Client, Binding, Bound, Refused, calls_of, with_binding}
 use Rattle.client_rules.specs.Asking.{begins}
 use Rattle.client_rules.specs.Learning.{learn}
-use Rattle.client_rules.specs.Taking.{alone_number, asks_answer, becomes, binding_error, has_asked, is_odd, noticed, told_of, told_states}
+use Rattle.client_rules.specs.Taking.{alone_number, asks_answer, becomes, binding_error, has_asked, noticed, told_of, told_states}
+use Rattle.msg_ids.specs.Counters.{is_odd}
 use Rattle.client_core.specs.declared.brought.Brought.{Brought}
 use Rattle.client_core.specs.declared.brought.Brought.TheVariants as brought
 use Rattle.client_core.specs.declared.brought.Incoming.{Incoming}

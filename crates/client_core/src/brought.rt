@@ -14,6 +14,7 @@ ghost use Rattle.client_core.specs.Brought.{IsFit, brought_of, lesson_of, notice
 use containers::{Part, Parts, is_container};
 use envelope::Envelope;
 use octets::{IdList, Memory, Octets};
+use service_tl::codes::WRONG_SALT;
 use service_tl::{Item, RPC_ERROR, parse};
 use std::alloc::Global;
 use tl_codec::Reader;
@@ -188,7 +189,7 @@ fn notice(alloc: Global, item: Item) -> Result<Brought, Memory>
             ..
         } => Ok(Brought::Notice {
             about: bad_msg_id,
-            code: 48,
+            code: WRONG_SALT,
             salt: Some(new_server_salt),
         }),
         other => states(alloc, other),

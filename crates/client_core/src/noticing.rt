@@ -7,15 +7,16 @@ use crate::core_client::Core;
 use crate::marking::mark_inner;
 use crate::rebinding::{binding_noticed, has_asked, mark_binding};
 use call_table::{Cause, Fate};
+use service_tl::codes::{FORGOTTEN, NUMBER_TOO_HIGH, NUMBER_TOO_LOW, WRONG_SALT};
 
 /// What becomes of a call by a notice on its number.
 fn fate_noticed(code: u32) -> Fate
     ensures { result ≡ fate_noticed code }
 {
     match code {
-        16 | 48 => Fate::Queue,
-        17 => Fate::Hold,
-        20 => Fate::Unknown(Cause::Forgotten),
+        NUMBER_TOO_LOW | WRONG_SALT => Fate::Queue,
+        NUMBER_TOO_HIGH => Fate::Hold,
+        FORGOTTEN => Fate::Unknown(Cause::Forgotten),
         _ => Fate::Refused(code),
     }
 }
@@ -36,7 +37,7 @@ impl Core {
         ensures room { self.new.room ≡ self.old.room }
         ensures learnt { self.new.rest.learnt ≡ self.old.rest.learnt }
     {
-        if code == 16 || code == 17 {
+        if code == NUMBER_TOO_LOW || code == NUMBER_TOO_HIGH {
             self.take_clock(outer);
         }
         if let Some(salt) = salt {

@@ -9,11 +9,10 @@ ghost use Rattle.client_core.specs.Owed.{asked_count, bytes_at, drops_bytes, owe
 
 use crate::asking::BODY_BYTES;
 use crate::core_client::Core;
-use crate::says::NUMBERS_MAX;
 use call_table::Group;
 use containers::laws::container_sizes;
 use containers::{CONTAINER_BYTES_MAX, CONTAINER_HEAD_BYTES, MESSAGE_HEAD_BYTES};
-use tl_codec::fill;
+use tl_codec::{LONGS_MAX, fill};
 
 /// The bytes of a message that names so many others.
 const LIST_HEAD_BYTES: usize = MESSAGE_HEAD_BYTES + 12;
@@ -38,7 +37,7 @@ impl Core {
         if !self.waiting.states {
             return 0;
         }
-        self.calls.members(Group::Outstanding).min(NUMBERS_MAX)
+        self.calls.members(Group::Outstanding).min(LONGS_MAX)
     }
 
     /// The bytes of how messages fared.

@@ -12,6 +12,7 @@ ghost use Rattle.client_core.specs.Sound.{CanBind, CanGoAgain};
 
 use crate::binding::{Binding, Temporary};
 use byteorder::{ByteOrder, LittleEndian};
+use service_tl::codes::{FORGOTTEN, NUMBER_TOO_HIGH, NUMBER_TOO_LOW, WRONG_SALT};
 use tl_codec::BOOL_TRUE;
 
 /// The bytes of a word.
@@ -101,8 +102,8 @@ pub(crate) fn binding_noticed(code: u32) -> Binding
     ensures bound { binding_in result ≡ binding_noticed code }
 {
     match code {
-        16 | 20 | 48 => Binding::Needed,
-        17 => Binding::Held,
+        NUMBER_TOO_LOW | FORGOTTEN | WRONG_SALT => Binding::Needed,
+        NUMBER_TOO_HIGH => Binding::Held,
         _ => Binding::Refused(code),
     }
 }

@@ -42,18 +42,6 @@ impl Core {
         envelope.key == self.key && envelope.session == self.session && envelope.number % 2 == 1
     }
 
-    /// The later of the greatest moment that was given and this one.
-    fn latest(&self, now: Moment) -> Moment
-        ensures moment { result ≡ max self.now.rest.now now }
-        ensures living { self.now.rest.has_ended ≡ false }
-    {
-        if self.moment.seconds() < now.seconds() {
-            now
-        } else {
-            self.moment
-        }
-    }
-
     /// Takes the room that so many messages may need.
     ///
     /// # Errors
@@ -126,7 +114,7 @@ impl Core {
     {
         tables_tell();
         S::opens_what_it_sealed();
-        match seal.unseal(alloc, self.latest(now), Dir::Down, packet) {
+        match seal.unseal(alloc, self.moment.later(now), Dir::Down, packet) {
             Opened::Envelope(envelope) => (self.take_envelope(alloc, now, &envelope), None),
             Opened::Refused(why) => {
                 self.reach(now);

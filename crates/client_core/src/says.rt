@@ -33,9 +33,7 @@ use envelope::Seal;
 use msg_ids::{Moment, Numbers};
 use octets::IdList;
 use temp_keys::Inner;
-
-/// The most numbers in a request for states.
-pub(crate) const NUMBERS_MAX: usize = 8_192;
+use tl_codec::LONGS_MAX;
 
 impl Core {
     /// The server's time, as far as the client knows.
@@ -422,7 +420,7 @@ fn living_in(calls: &Calls, mut list: Vec<u64>) -> Vec<u64>
     requires room { min (length (numbers_in calls.now.rows)) numbers_max ≤ vec_capacity list }
     ensures { result.items ≡ take numbers_max (numbers_in calls.now.rows) }
 {
-    for k in 0..NUMBERS_MAX {
+    for k in 0..LONGS_MAX {
         match calls.living_at(k) {
             None => return list,
             Some(number) => list.push_reserved(number),

@@ -11,9 +11,7 @@ use crate::waiting::States;
 use call_table::{CallNo, Fate, Group};
 use msg_ids::Moment;
 use octets::{IdList, Octets};
-
-/// The most numbers in a list of numbers.
-const NUMBERS_MAX: usize = 8192;
+use tl_codec::LONGS_MAX;
 
 impl Core {
     ghost use Rattle.std.specs.Prelude.{◌≡◌, ◌≤◌, ◌<◌, ◌+◌, IsTrue, true, false, Some, length, fold, max};
@@ -36,9 +34,7 @@ impl Core {
         ensures room { self.new.room ≡ self.old.room }
         ensures learnt { self.new.rest.learnt ≡ self.old.rest.learnt }
     {
-        if self.moment.seconds() < now.seconds() {
-            self.moment = now;
-        }
+        self.moment = self.moment.later(now);
     }
 
     /// A message with an odd seq is acknowledged.
@@ -133,7 +129,7 @@ impl Core {
         ensures sessions { self.new.room.sessions ≡ self.old.room.sessions }
         ensures learnt { self.new.rest.learnt ≡ self.old.rest.learnt }
     {
-        if self.waiting.resent.ids().len() < NUMBERS_MAX {
+        if self.waiting.resent.ids().len() < LONGS_MAX {
             self.waiting.resent.push(answer);
         }
     }

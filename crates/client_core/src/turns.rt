@@ -5,7 +5,7 @@ ghost use Rattle.call_table.specs.Kept.{Stands as StandsFor, state_in};
 ghost use Rattle.call_table.specs.Table.{IsGiven, Queued, Table, at};
 ghost use Rattle.containers.specs.Container.{messages_max};
 ghost use Rattle.client_rules.specs.Client.{Client, calls_of};
-ghost use Rattle.client_rules.specs.Filling.{Filling, Goes as Going, is_good, says_call, takes_turn, turn_after, turn_behind, turn_of, turn_under};
+ghost use Rattle.client_rules.specs.Filling.{Filling, Goes as Going, says_call, takes_turn, turn_after, turn_behind, turn_of, turn_under};
 ghost use Rattle.client_core.specs.Calling.{turn_in};
 ghost use Rattle.client_core.specs.Draft.{Goes, HasNumbers, HasRoomFor, LeavesQueue, SoFar, queue};
 ghost use Rattle.client_core.specs.Owed.{queued_bytes};
@@ -14,11 +14,10 @@ ghost use Rattle.client_core.specs.Kept.{Stands, binding_in};
 use crate::binding::Binding;
 use crate::core_client::Core;
 use crate::filling::Draft;
-use byteorder::{ByteOrder, LittleEndian};
 use call_table::laws::tables_tell;
 use call_table::{CallNo, CallState, Calls, Fate, Group, Living};
 use draws::Draw;
-use service_tl::{RPC_ANSWER_DROPPED_RUNNING, RPC_ERROR};
+use service_tl::is_good;
 
 /// What a queued call does when its turn comes.
 #[derive(Clone, Copy)]
@@ -29,17 +28,6 @@ pub(crate) enum Turn {
     Waits,
     /// It never goes.
     Never,
-}
-
-/// Whether a result is one after which another call goes.
-fn is_good(bytes: &[u8]) -> bool
-    ensures { result ≡ is_good bytes.now }
-{
-    if bytes.len() < 4 {
-        return true;
-    }
-    let tag = LittleEndian::read_u32(bytes);
-    tag != RPC_ERROR && tag != RPC_ANSWER_DROPPED_RUNNING
 }
 
 /// The turn of a call that is to execute after this one, if one is given.

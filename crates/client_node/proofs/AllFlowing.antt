@@ -7,7 +7,7 @@ use Rattle.transport.specs.Wires.{Line}
 use Rattle.client_rules.specs.Client.{Client, calls_of}
 use Rattle.client_rules.specs.Flush.{Answer, Nothing, Spent, Sends, flush}
 use Rattle.client_rules.specs.Sending.{Packet, Setting}
-use Rattle.law_client_bounds.specs.Due.{due_of}
+use Rattle.law_client.specs.Due.{due_of}
 use Rattle.client_core.specs.Flushed.{TellsFlush}
 use Rattle.client_core.specs.declared.flush.Flush.TheVariants as told
 use Rattle.client_core.specs.declared.holder.Holder.{Holder}

@@ -17,7 +17,8 @@ use Rattle.client_core.specs.declared.holder.Holder.{Holder}
 use Rattle.client_node.specs.Course.{AreSent, Course, Phase, Opening, Open, Ended, flushed_in, flushes, is_decided, sends_all}
 use Rattle.client_node.specs.Flow.{CountsEnd, Cut, Flow, FlowedBy, Follows, FramedBy, FoundNothing, OneFlush, StoppedBy, Stops, ended_by, flowed, went_on}
 use Rattle.client_node.specs.Standing.{DecidedBy, FlushedAs, StandsAs, StandsFor, has_undecided}
-use Rattle.client_node.specs.Writes.{CountsBy, Seen, Spells, StaysBy, TellsMore, Writes, Wrote, WroteBy}
+use Rattle.client_node.specs.Writes.{CountsBy, Seen, StaysBy, TellsMore, Writes, Wrote, WroteBy}
+use Rattle.transport.specs.Spelt.{Spells}
 use Rattle.client_node.specs.declared.end.End.{End}
 use Rattle.client_node.specs.declared.end.End.TheVariants as ends
 use Rattle.client_node.proofs.Joining.{flowed_both, framed_both, tells_after}

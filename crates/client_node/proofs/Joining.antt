@@ -5,7 +5,8 @@ use Rattle.mt_edge.specs.Faults.{one_more}
 use Rattle.mt_edge.specs.Links.{Told}
 use Rattle.transport.specs.Wires.{Line}
 use Rattle.client_node.specs.Flow.{BreaksLast, Cut, FlowedBy, FramedBy}
-use Rattle.client_node.specs.Writes.{Breaks, Seen, Spells, Writes, Wrote, WroteFront}
+use Rattle.client_node.specs.Writes.{Breaks, Seen, Writes, Wrote, WroteFront}
+use Rattle.transport.specs.Spelt.{Spells}
 use Rattle.client_node.specs.declared.end.End.{End}
 use Rattle.client_node.specs.declared.end.End.TheVariants as ends
 

@@ -14,7 +14,8 @@ use Rattle.mt_edge.specs.declared.link_read.LinkRead.{LinkRead}
 use Rattle.mt_edge.specs.declared.source.Got.{Got}
 use Rattle.client_node.specs.Runs.{Gave, ReadBy, ReadsBy}
 use Rattle.client_node.specs.Talks.{FailsReading, FailsWriting, Passed, PassedFront, Passes, Place, Rules, Said, piece_bytes, says}
-use Rattle.client_node.specs.Writes.{Breaks, Seen, Spells, Writes, Wrote, WroteFront, frames_of}
+use Rattle.client_node.specs.Writes.{Breaks, Seen, Writes, Wrote, WroteFront}
+use Rattle.transport.specs.Spelt.{Spells, frames_of}
 use Rattle.client_node.proofs.Joining.{told_both}
 
 -- ---- the packets of what came

@@ -19,7 +19,8 @@ use Rattle.client_node.specs.Runs.{Gave, GotPiece, MissedPiece, ReadsBy, Talked,
 use Rattle.client_node.specs.Standing.{IsReading, StandsAs}
 use Rattle.client_node.specs.Talks.{AreFramed, AreWhole, EndsHearing, FailsLast, Heard, IsNoPiece, IsReady, IsSaid, IsText, Loses, Passes, Place, Rules, Said, ShowsClose, Stopped, Turn, TurnsDone, Unread, gets, hears_all, reads, rules_of, says, turned, turns_from, turns_max}
 use Rattle.client_node.specs.Took.{CameAll, IsDone, IsLost, TookAll, packets_max, takes_all}
-use Rattle.client_node.specs.Writes.{Seen, Spells, frames_of}
+use Rattle.client_node.specs.Writes.{Seen}
+use Rattle.transport.specs.Spelt.{Spells, frames_of}
 use Rattle.client_node.specs.declared.end.End.{End}
 use Rattle.client_node.specs.declared.end.End.TheVariants as ends
 use Rattle.client_node.proofs.Passing.{begins_by, fails_read, fails_said, gave_more, gave_none, hears_as, passes_none, passes_read, passes_said, spells_as}

@@ -10,7 +10,8 @@ use Rattle.client_core.specs.declared.flush.Flush.TheVariants as told
 use Rattle.client_core.specs.declared.holder.Holder.{Holder}
 use Rattle.client_node.specs.Course.{Answers, AreSent, Course, flushes, is_decided, sends_all}
 use Rattle.client_node.specs.Standing.{StandsAs}
-use Rattle.client_node.specs.Writes.{Breaks, Seen, Spells, Writes}
+use Rattle.client_node.specs.Writes.{Breaks, Seen, Writes}
+use Rattle.transport.specs.Spelt.{Spells}
 use Rattle.client_node.specs.declared.end.End.{End}
 use Rattle.client_node.specs.declared.end.End.TheVariants.{Decided, Lost, TurnsSpent, Spent, Memory}
 

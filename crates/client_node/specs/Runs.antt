@@ -15,7 +15,8 @@ use Rattle.client_node.specs.Standing.{StandsAs}
 use Rattle.client_node.specs.Talks.{AreTurns, Connection, IsConnection, IsNoPiece, IsTalk, Passes, Place, Rules, Shows, ShowsClose, Talk, Turn, course_after, end_by, end_of, moments_of, piece_bytes, place_after, turns_from}
 use Rattle.client_node.specs.Took.{TookPiece}
 use Rattle.client_node.specs.Trace.{AreLost, AreNoted, Attempt, IsAttempt, IsNoted, after_all, all_moments, attempted, end_of_attempt, moments_in}
-use Rattle.client_node.specs.Writes.{Seen, Spells}
+use Rattle.client_node.specs.Writes.{Seen}
+use Rattle.transport.specs.Spelt.{Spells}
 use Rattle.client_node.specs.declared.end.End.{End}
 use Rattle.client_node.specs.declared.end.End.TheVariants as ends
 use Rattle.client_node.specs.declared.plan.Plan.{Plan}

@@ -20,7 +20,8 @@ use Rattle.client_core.specs.Flushed.{setting_of}
 use Rattle.client_node.specs.Course.{AreSent, Course, Reading, attaches, is_decided, renews, sends_all}
 use Rattle.client_node.specs.Flow.{FoundNothing, StoppedBy, flowed}
 use Rattle.client_node.specs.Took.{IsNoError, NoneDecides, decides, error_bytes, takes_all}
-use Rattle.client_node.specs.Writes.{Seen, frames_of}
+use Rattle.client_node.specs.Writes.{Seen}
+use Rattle.transport.specs.Spelt.{frames_of}
 use Rattle.client_node.specs.declared.end.End.{End}
 use Rattle.client_node.specs.declared.end.End.TheVariants as ends
 use Rattle.client_node.specs.declared.plan.Plan.{Plan}

@@ -1,13 +1,7 @@
 -- What is written over a link.
-use Rattle.std.specs.Prelude.{◌≡◌, ◌≢◌, ℕ, ◌+◌, List, [], ◌∷◌, ◌++◌, Option, IfSome, IsSomeAnd, Result, Ok, Err, ⊤}
+use Rattle.std.specs.Prelude.{◌≡◌, ◌≢◌, ℕ, List, [], ◌++◌, Option, IfSome, IsSomeAnd, Result, Ok, Err, ⊤}
 use Rattle.mt_edge.specs.Links.{Told}
 use Rattle.mt_edge.specs.Faults.{one_more}
-use Rattle.cipher_modes.specs.CounterMode.{CtrState}
-use Rattle.framing.specs.Streams.{number_after}
-use Rattle.transport.specs.Directions.{through}
-use Rattle.transport.specs.Forms.{frame_of}
-use Rattle.transport.specs.Wires.{Line, Tells}
-use Rattle.transport.specs.declared.form.Form.{Form}
 use Rattle.client_node.specs.declared.end.End.{End}
 use Rattle.client_node.specs.declared.end.End.TheVariants.{Decided, Lost, TurnsSpent, Spent, Memory}
 
@@ -61,20 +55,6 @@ CountsBy (Err Memory) before after = after ≡ before
 CountsBy (Err Decided) before after = ⊥
 CountsBy (Err TurnsSpent) before after = ⊥
 CountsBy (Err Spent) before after = ⊥
-
--- the frame of a packet as it goes over a wire
-abbrev pub framed : Line → List ℕ → List ℕ
-framed line packet = through line.writing (frame_of line.form line.number packet)
-
--- the writer's frames of these packets, the first of them behind so many others
-abbrev pub frames_of : Form → ℕ → List (List ℕ) → List ℕ
-frames_of form count [] = []
-frames_of form count (packet ∷ packets) = frame_of form (number_after count) packet ++ frames_of form (count + 1) packets
-
--- These packets went out over a wire as these bytes behind its start: they read as the packets, and are the writer's frames.
-pub record Spells (line : Line) (to : Option CtrState) (packets : List (List ℕ)) (bytes : List ℕ) : Type 0 where
-  pub tells : Tells line to packets bytes
-  pub spelt : through to bytes ≡ frames_of line.form 0 packets
 
 -- what went out before tells of a packet more, unless memory ran out
 abbrev pub TellsMore : {X : Type 0} → Result X End → Type 0 → Type 0

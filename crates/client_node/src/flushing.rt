@@ -16,7 +16,7 @@ use client_core::{Flush, Holder};
 use draws::Draw;
 use envelope::Seal;
 use envelope::laws::opens_what_it_sealed;
-use law_client_bounds::laws::flushes_leave_less;
+use law_client::bounds::flushes_leave_less;
 use msg_ids::Moment;
 use mt_edge::Link;
 use octets::Octets;

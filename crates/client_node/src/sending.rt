@@ -3,13 +3,14 @@
 ghost use Rattle.std.specs.Prelude.{◌≡◌, ◌++◌, ◌∷◌, [], ℕ, List, Option, IfErr, IfSome, IsSome, IsSomeAnd, OnOk};
 ghost use Rattle.cipher_modes.specs.CounterMode.{CtrState};
 ghost use Rattle.transport.specs.Forms.{IsSent};
-ghost use Rattle.client_node.specs.Writes.{CountsBy, Spells, StaysBy, TellsMore, WroteBy, framed};
+ghost use Rattle.client_node.specs.Writes.{CountsBy, StaysBy, TellsMore, WroteBy};
+ghost use Rattle.transport.specs.Spelt.{Spells, framed};
 
 use crate::end::End;
-use cipher_modes::laws::{ctr_pieces_equal_the_whole, ctr_undoes_itself};
 use mt_edge::{Link, Put};
 use octets::{Memory, Octets};
 use std::alloc::Global;
+use transport::laws::a_packet_more_is_spelt;
 use transport::{Framed, Wire};
 
 /// Writes a whole piece to a link.
@@ -59,8 +60,7 @@ pub(crate) fn send_packet<L: Link>(
     ensures unchanged_on_memory { StaysBy result (wire.new ≡ wire.old) }
     ensures same_in { (wire.new.form ≡ wire.old.form) × (wire.new.held ≡ wire.old.held) × (wire.new.reading ≡ wire.old.reading) }
 {
-    ctr_pieces_equal_the_whole();
-    ctr_undoes_itself();
+    a_packet_more_is_spelt();
     frame.truncate(0);
     match wire.put(alloc, packet, frame) {
         Ok(()) => send(link, frame.as_slice()),

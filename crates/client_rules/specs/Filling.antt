@@ -1,11 +1,11 @@
 -- The items of a client's next packet, in order (core.telegram.org/mtproto/service_messages,
 -- core.telegram.org/mtproto/service_messages_about_messages; core.telegram.org/api/invoking, "Saving query order").
-use Rattle.std.specs.Prelude.{ℕ, ◌&&◌, ◌||◌, not, nat_lt, Bool, true, false, if◌then◌else◌, Option, Some, None, option_map, List, [], ◌∷◌, ◌++◌, fold, take, filter_map}
+use Rattle.std.specs.Prelude.{ℕ, ◌&&◌, nat_lt, Bool, true, false, if◌then◌else◌, Option, Some, None, option_map, List, [], ◌∷◌, ◌++◌, fold, take, filter_map}
 use Rattle.service_tl.specs.declared.lists.Message.{Message}
 use Rattle.service_tl.specs.declared.item.Item.{Item}
 use Rattle.service_tl.specs.declared.item.Item.TheVariants.{RpcDropAnswer, GetFutureSalts, Ping, DestroySession, MsgsAck, MsgsStateReq, MsgsStateInfo, MsgResendReq, InvokeAfterMsg}
 use Rattle.service_tl.specs.Items.{spelling_of}
-use Rattle.service_tl.specs.Schema.{rpc_error, rpc_answer_dropped_running}
+use Rattle.service_tl.specs.Results.{is_good}
 use Rattle.packing.specs.Packing.{is_within}
 use Rattle.call_table.specs.declared.call.CallNo.{CallNo}
 use Rattle.call_table.specs.declared.call.Living.{Living}
@@ -15,7 +15,6 @@ use Rattle.call_table.specs.Table.{State, Name, Call, at, flagged, group_of, liv
 use Rattle.call_table.specs.Table as table
 use Rattle.client_rules.specs.Client.{Client, Binding, Needed, Asked, Bound, Refused, Temporary, States, calls_of, is_open, with_binding, with_call, numbered, after_message}
 use Rattle.client_rules.specs.Sending.{Setting, binding_body, draw_after_binding}
-use Rattle.client_rules.specs.Asking.{begins}
 
 -- ---- a packet that is filled
 
@@ -156,10 +155,6 @@ abbrev pub says_drop : {S : Type 0} → Filling S → CallNo → Filling S
 says_drop filling call = says_drop_of call (number_of (at call (calls_of filling.client))) filling
 
 -- ---- queued calls
-
--- a result is good where it begins with neither `rpc_error` nor `rpc_answer_dropped_running`
-abbrev pub is_good : List ℕ → Bool
-is_good result = not (begins rpc_error.number result || begins rpc_answer_dropped_running.number result)
 
 -- when its turn comes, a queued call goes, as it is or behind the message of this number, or it waits, or it never goes
 pub data Turn : Type 0 where

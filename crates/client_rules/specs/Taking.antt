@@ -1,8 +1,9 @@
 -- What a packet from the server changes (core.telegram.org/mtproto/service_messages,
 -- core.telegram.org/mtproto/service_messages_about_messages).
-use Rattle.std.specs.Prelude.{ℕ, ◌%◌, ◌==◌, ◌&&◌, ◌||◌, not, nat_lt, bit_and, Bool, true, false, if◌then◌else◌, Option, Some, None, option_map, List, [], ◌∷◌, ◌++◌, fold, length, replicate, Result, Ok, Err}
+use Rattle.std.specs.Prelude.{ℕ, ◌==◌, ◌&&◌, ◌||◌, not, nat_lt, bit_and, Bool, true, false, if◌then◌else◌, Option, Some, None, option_map, List, [], ◌∷◌, ◌++◌, fold, length, replicate, Result, Ok, Err}
 use Rattle.std.specs.List.{list_any, zip}
 use Rattle.tl_codec.specs.Standard.{bool_true}
+use Rattle.msg_ids.specs.Counters.{is_odd}
 use Rattle.service_tl.specs.declared.lists.Message.{Message}
 use Rattle.service_tl.specs.declared.item.Item.{Item}
 use Rattle.service_tl.specs.declared.item.Item.TheVariants.{RpcResult, RpcError, NewSessionCreated, MsgsStateReq, MsgsStateInfo, MsgsAllInfo, MsgResendReq, MsgDetailedInfo, MsgNewDetailedInfo, BadMsgNotification, BadServerSalt}
@@ -176,9 +177,6 @@ row outer number _ client = client
 
 -- a message with an odd seq is acknowledged (core.telegram.org/mtproto/service_messages_about_messages, "Acknowledgment of
 -- Receipt")
-abbrev pub is_odd : ℕ → Bool
-is_odd number = number % 2 == 1
-
 abbrev pub acknowledges : Message → Client → Client
 acknowledges message client =
     if is_odd message.seq

@@ -5,13 +5,13 @@ ghost use Rattle.call_table.specs.Kept.{shown};
 ghost use Rattle.call_table.specs.Table.{Call, IsGiven, state_at};
 ghost use Rattle.client_node.specs.Standing.{StandsFor, kept_of};
 ghost use Rattle.client_rules.specs.Client.{Client, calls_of};
-ghost use Rattle.world_rules.specs.Report.{cause_text, is_done, state_text};
+ghost use Rattle.world_rules.specs.Report.{is_done};
 ghost use Rattle.cmd_call.specs.Table.{are_done, table, table_line};
 
-use client_core::{CallNo, CallState, Cause, Holder};
+use client_core::{CallNo, CallState, Holder};
 use itoa::Buffer;
 use octets::{Memory, Octets};
-use sim_text::reply_text;
+use sim_text::state_text;
 use std::alloc::Global;
 
 /// A line for each call of a client, in order.
@@ -90,42 +90,6 @@ fn push_line(
     text.push_all(alloc, b"call ")?;
     text.push_all(alloc, buffer.format(number).as_bytes())?;
     text.push_all(alloc, b" ")?;
-    push_state(alloc, text, state)?;
+    state_text(alloc, text, state)?;
     text.push_all(alloc, b"\n")
-}
-
-/// Puts what became of a call behind a text.
-fn push_state(alloc: Global, text: &mut Octets, state: &CallState<'_>) -> Result<(), Memory>
-    ensures { OnOk result (text.new ≡ text.old ++ state_text (shown state.now)) }
-{
-    match state {
-        CallState::Queued => text.push_all(alloc, b"queued"),
-        CallState::Sent => text.push_all(alloc, b"sent"),
-        CallState::Held => text.push_all(alloc, b"held"),
-        CallState::Done(reply) => {
-            text.push_all(alloc, b"done ")?;
-            reply_text(alloc, text, reply)
-        }
-        CallState::Refused(code) => {
-            let mut buffer = Buffer::new();
-            text.push_all(alloc, b"refused ")?;
-            text.push_all(alloc, buffer.format(*code).as_bytes())
-        }
-        CallState::Unknown(cause) => {
-            text.push_all(alloc, b"unknown ")?;
-            text.push_all(alloc, cause_of(*cause).as_bytes())
-        }
-    }
-}
-
-/// Why it isn't known what became of a call.
-fn cause_of(cause: Cause) -> &'static str
-    ensures { result.now ≡ cause_text cause }
-{
-    match cause {
-        Cause::Session => "session",
-        Cause::Renewed => "renewed",
-        Cause::Ended => "ended",
-        Cause::Forgotten => "forgotten",
-    }
 }

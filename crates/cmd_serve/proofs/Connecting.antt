@@ -3,14 +3,16 @@ use Rattle.std.proofs.Common.{◌≡◌, ◌≢◌, ◌<◌, ◌+◌, ℕ, List,
 use Rattle.mt_edge.specs.declared.net_call.NetCall.{NetCall}
 use Rattle.mt_edge.specs.declared.net_call.NetCall.TheVariants.{Accept}
 use Rattle.mt_edge.specs.declared.net_call.Outcome.TheVariants.{Failed}
-use Rattle.mt_edge.specs.Faults.{one_more}
+use Rattle.mt_edge.specs.Faults.{Rose, one_more}
+use Rattle.server_core.specs.declared.desk.DeskFault.{DeskFault}
+use Rattle.server_core.specs.declared.desk.DeskFault.TheVariants as faults
 use Rattle.server_node.specs.Trace.{Rules}
 use Rattle.server_node.specs.declared.conn.ConnEnd.{ConnEnd}
 use Rattle.server_node.specs.declared.conn.ConnEnd.TheVariants as ends
 use Rattle.cmd_serve.specs.Connections.{AreNoted, AreNotedBy, Between, Connection, CountsEnding, GoesOn, IsNoted, behind_all}
-use Rattle.cmd_serve.specs.Inner.{CountsTaking, IsAt, IsNoJournal, LeavesCount, ServedAll, ServedSoFar, Side, Took, TookNone, TookOne, ending_by}
+use Rattle.cmd_serve.specs.Inner.{CountsDeskBy, CountsTaken, CountsTaking, IsAt, IsBehind, IsDiskEnd, IsServeFault, LeavesCount, ServedAll, ServedSoFar, Side, Took, TookNone, TookOne, ending_by}
 use Rattle.cmd_serve.specs.declared.ending.Ending.{Ending}
-use Rattle.cmd_serve.specs.declared.ending.Ending.TheVariants.{Served, Stopped, NotTaken, Memory}
+use Rattle.cmd_serve.specs.declared.ending.Ending.TheVariants.{Served, Stopped, NotTaken, Journal, Memory}
 use Rattle.cmd_serve.proofs.Taking.{still-left}
 
 -- ---- what is noted
@@ -59,32 +61,43 @@ none-so-far {S} {V} rules first side stands = record {
 }
 
 more-served : {S V : Type 0} (rules : Rules S V) (first : Between S V) (count : ℕ) (calls : Option (List NetCall)) (side later : Side S V) (end : ConnEnd)
-    → (so_far : ServedSoFar rules first count calls side) → GoesOn end → TookOne rules (behind_all first so_far.connections) side.calls end later
+    → (so_far : ServedSoFar rules first count calls side) → GoesOn end → (took : TookOne rules (behind_all first so_far.connections) side.calls end later) → IsAt later took.one.behind
     → ServedSoFar rules first (count + 1) calls later
-more-served rules first count calls side later end so_far goes took = record {
+more-served rules first count calls side later end so_far goes took stands = record {
   connections = took.one ∷ so_far.connections;
   are = (so_far.are, took.is);
   go_on = (so_far.go_on, subst GoesOn (sym took.ended) goes);
   count_is = omega (arith, so_far.count_is);
-  stands = took.stands;
+  stands = stands;
   noted = notes-more took.one so_far.connections calls side.calls later.calls so_far.noted took.noted;
 }
 
-goes-on : (end : ConnEnd) → IsNoJournal (Some end) → ending_by (Some end) ≡ None → GoesOn end
-goes-on ends.Ended own none = tt
-goes-on ends.LinkFault own none = tt
-goes-on (ends.Frame fault) own none = tt
-goes-on ends.Start own none = tt
-goes-on ends.TurnsSpent own none = tt
-goes-on ends.Stopped own none = cc
-goes-on (ends.Journal fault) own none = own
-goes-on ends.Memory own none = cc
+goes-on : (end : ConnEnd) → ending_by (Some end) ≡ None → GoesOn end
+goes-on ends.Ended none = tt
+goes-on ends.LinkFault none = tt
+goes-on (ends.Frame fault) none = tt
+goes-on ends.Start none = tt
+goes-on ends.TurnsSpent none = tt
+goes-on ends.Stopped none = cc
+goes-on (ends.Journal fault) none = cc
+goes-on ends.Memory none = cc
+
+stands-on : {S V : Type 0} (end : ConnEnd) (side : Side S V) (between : Between S V) → ending_by (Some end) ≡ None → IsBehind end side between → IsAt side between
+stands-on ends.Ended side between none stands = stands
+stands-on ends.LinkFault side between none stands = stands
+stands-on (ends.Frame fault) side between none stands = stands
+stands-on ends.Start side between none stands = stands
+stands-on ends.TurnsSpent side between none stands = stands
+stands-on ends.Stopped side between none stands = stands
+stands-on (ends.Journal fault) side between none stands = cc
+stands-on ends.Memory side between none stands = stands
 
 pub one-more-served : {S V : Type 0} (rules : Rules S V) (first : Between S V) (count : ℕ) (calls : Option (List NetCall)) (side later : Side S V) (end : Option ConnEnd)
-    → IsNoJournal end → ending_by end ≡ None → (so_far : ServedSoFar rules first count calls side) → Took rules (behind_all first so_far.connections) side.calls end later
+    → ending_by end ≡ None → (so_far : ServedSoFar rules first count calls side) → Took rules (behind_all first so_far.connections) side.calls end later
     → ServedSoFar rules first (count + 1) calls later
-one-more-served rules first count calls side later None own none so_far took = cc
-one-more-served rules first count calls side later (Some end) own none so_far took = more-served rules first count calls side later end so_far (goes-on end own none) took
+one-more-served rules first count calls side later None none so_far took = cc
+one-more-served rules first count calls side later (Some end) none so_far took =
+    more-served rules first count calls side later end so_far (goes-on end none) took (stands-on end later took.one.behind none took.stands)
 
 -- ---- how they end
 
@@ -121,25 +134,37 @@ without-memory rules first count conns calls side later few so_far took = record
   noted = notes-more took.one so_far.connections calls side.calls later.calls so_far.noted took.noted;
 }
 
+broken : {S V : Type 0} (rules : Rules S V) (first : Between S V) (count conns : ℕ) (calls : Option (List NetCall)) (side later : Side S V) (fault : DeskFault)
+    → fault ≡ faults.Disk → count < conns → (so_far : ServedSoFar rules first count calls side) → TookOne rules (behind_all first so_far.connections) side.calls (ends.Journal fault) later
+    → ServedAll rules first conns calls Journal later
+broken rules first count conns calls side later fault is few so_far took = record {
+  connections = took.one ∷ so_far.connections;
+  are = (so_far.are, took.is);
+  ended = (so_far.go_on, took.ended ∙ ap (λ (some : DeskFault). ends.Journal some) is, omega (arith, few, so_far.count_is));
+  stands = took.stands;
+  noted = notes-more took.one so_far.connections calls side.calls later.calls so_far.noted took.noted;
+}
+
 ends-as : {S V : Type 0} (rules : Rules S V) (first : Between S V) (conns : ℕ) (calls : Option (List NetCall)) (later : Side S V) (due ending : Ending) → Some due ≡ Some ending
     → ServedAll rules first conns calls due later → ServedAll rules first conns calls ending later
 ends-as rules first conns calls later due ending same all = let is : due ≡ ending = cc in subst (λ (one : Ending). ServedAll rules first conns calls one later) is all
 
 pub all-served : {S V : Type 0} (rules : Rules S V) (first : Between S V) (count conns : ℕ) (calls : Option (List NetCall)) (side later : Side S V) (end : Option ConnEnd) (ending : Ending)
-    → count < conns → ending_by end ≡ Some ending → (so_far : ServedSoFar rules first count calls side) → Took rules (behind_all first so_far.connections) side.calls end later
+    → IsDiskEnd end → count < conns → ending_by end ≡ Some ending → (so_far : ServedSoFar rules first count calls side) → Took rules (behind_all first so_far.connections) side.calls end later
     → ServedAll rules first conns calls ending later
-all-served rules first count conns calls side later None ending few same so_far took =
+all-served rules first count conns calls side later None ending disk few same so_far took =
     ends-as rules first conns calls later NotTaken ending same (not-taken rules first count conns calls side later few so_far took)
-all-served rules first count conns calls side later (Some ends.Stopped) ending few same so_far took =
+all-served rules first count conns calls side later (Some ends.Stopped) ending disk few same so_far took =
     ends-as rules first conns calls later Stopped ending same (stopped rules first count conns calls side later few so_far took)
-all-served rules first count conns calls side later (Some ends.Memory) ending few same so_far took =
+all-served rules first count conns calls side later (Some ends.Memory) ending disk few same so_far took =
     ends-as rules first conns calls later Memory ending same (without-memory rules first count conns calls side later few so_far took)
-all-served rules first count conns calls side later (Some ends.Ended) ending few same so_far took = cc
-all-served rules first count conns calls side later (Some ends.LinkFault) ending few same so_far took = cc
-all-served rules first count conns calls side later (Some (ends.Frame fault)) ending few same so_far took = cc
-all-served rules first count conns calls side later (Some ends.Start) ending few same so_far took = cc
-all-served rules first count conns calls side later (Some ends.TurnsSpent) ending few same so_far took = cc
-all-served rules first count conns calls side later (Some (ends.Journal fault)) ending few same so_far took = cc
+all-served rules first count conns calls side later (Some ends.Ended) ending disk few same so_far took = cc
+all-served rules first count conns calls side later (Some ends.LinkFault) ending disk few same so_far took = cc
+all-served rules first count conns calls side later (Some (ends.Frame fault)) ending disk few same so_far took = cc
+all-served rules first count conns calls side later (Some ends.Start) ending disk few same so_far took = cc
+all-served rules first count conns calls side later (Some ends.TurnsSpent) ending disk few same so_far took = cc
+all-served rules first count conns calls side later (Some (ends.Journal fault)) ending disk few same so_far took =
+    ends-as rules first conns calls later Journal ending same (broken rules first count conns calls side later fault disk few so_far took)
 
 pub each-served : {S V : Type 0} (rules : Rules S V) (first : Between S V) (count conns : ℕ) (calls : Option (List NetCall)) (later : Side S V)
     → count ≡ conns → ServedSoFar rules first count calls later → ServedAll rules first conns calls Served later
@@ -165,11 +190,60 @@ counts-ending (Some ends.LinkFault) ending first before after same is counted = 
 counts-ending (Some (ends.Frame fault)) ending first before after same is counted = cc
 counts-ending (Some ends.Start) ending first before after same is counted = cc
 counts-ending (Some ends.TurnsSpent) ending first before after same is counted = cc
-counts-ending (Some (ends.Journal fault)) ending first before after same is counted = cc
+counts-ending (Some (ends.Journal fault)) ending first before after same is counted = counts-as Journal ending first after same (counted ∙ is)
 
 pub counts-going : (end : Option ConnEnd) (first before after : ℕ) → ending_by end ≡ None → before ≡ first → CountsTaking end before after → after ≡ first
 counts-going None first before after none is counted = cc
 counts-going (Some end) first before after none is counted = counted ∙ is
+
+-- ---- the desk
+
+-- a desk that answers want of memory and faults of its disk alone ends a connection by the latter
+disk-fault : (fault : DeskFault) → IsServeFault fault → fault ≢ faults.Memory → fault ≡ faults.Disk
+disk-fault faults.Memory is other = absurd (other refl)
+disk-fault faults.Disk is other = refl
+disk-fault faults.Closed is other = absurd is
+disk-fault (faults.Full len) is other = absurd is
+
+pub disk-end : (may : DeskFault → Type 0) (end : ConnEnd) → ((fault : DeskFault) → may fault → IsServeFault fault) → ((fault : DeskFault) → end ≡ ends.Journal fault → may fault × (fault ≢ faults.Memory)) → IsDiskEnd (Some end)
+disk-end may ends.Ended lets ended = tt
+disk-end may ends.LinkFault lets ended = tt
+disk-end may (ends.Frame fault) lets ended = tt
+disk-end may ends.Start lets ended = tt
+disk-end may ends.TurnsSpent lets ended = tt
+disk-end may ends.Stopped lets ended = tt
+disk-end may (ends.Journal fault) lets ended = let by = ended fault refl in disk-fault fault (lets fault by.0) by.1
+disk-end may ends.Memory lets ended = tt
+
+desk-as : (due ending : Ending) (first after : ℕ) → Some due ≡ Some ending → CountsDeskBy due first after → CountsDeskBy ending first after
+desk-as due ending first after same counted = let is : due ≡ ending = cc in subst (λ (one : Ending). CountsDeskBy one first after) is counted
+
+rose-disk : (fault : DeskFault) (first before after : ℕ) → fault ≡ faults.Disk → before ≡ first → CountsTaken (Some (ends.Journal fault)) before after → Rose first after
+rose-disk fault first before after is same counted =
+    let rose : Rose before after = subst (λ (some : DeskFault). CountsTaken (Some (ends.Journal some)) before after) is counted in
+    subst (λ (count : ℕ). Rose count after) same rose
+
+pub counts-desk : (end : Option ConnEnd) (ending : Ending) (first before after : ℕ) → IsDiskEnd end → ending_by end ≡ Some ending → before ≡ first → CountsTaken end before after → CountsDeskBy ending first after
+counts-desk None ending first before after disk same is counted = desk-as NotTaken ending first after same (counted ∙ is)
+counts-desk (Some ends.Stopped) ending first before after disk same is counted = desk-as Stopped ending first after same (counted ∙ is)
+counts-desk (Some ends.Memory) ending first before after disk same is counted = desk-as Memory ending first after same (counted ∙ is)
+counts-desk (Some ends.Ended) ending first before after disk same is counted = cc
+counts-desk (Some ends.LinkFault) ending first before after disk same is counted = cc
+counts-desk (Some (ends.Frame fault)) ending first before after disk same is counted = cc
+counts-desk (Some ends.Start) ending first before after disk same is counted = cc
+counts-desk (Some ends.TurnsSpent) ending first before after disk same is counted = cc
+counts-desk (Some (ends.Journal fault)) ending first before after disk same is counted = desk-as Journal ending first after same (rose-disk fault first before after disk is counted)
+
+pub desk-going : (end : Option ConnEnd) (first before after : ℕ) → ending_by end ≡ None → before ≡ first → CountsTaken end before after → after ≡ first
+desk-going None first before after none is counted = cc
+desk-going (Some ends.Stopped) first before after none is counted = cc
+desk-going (Some ends.Memory) first before after none is counted = cc
+desk-going (Some ends.Ended) first before after none is counted = counted ∙ is
+desk-going (Some ends.LinkFault) first before after none is counted = counted ∙ is
+desk-going (Some (ends.Frame fault)) first before after none is counted = counted ∙ is
+desk-going (Some ends.Start) first before after none is counted = counted ∙ is
+desk-going (Some ends.TurnsSpent) first before after none is counted = counted ∙ is
+desk-going (Some (ends.Journal fault)) first before after none is counted = cc
 
 -- ---- packets that may still be answered
 

@@ -1,7 +1,11 @@
-pub mod PlainTexts
 pub mod Opening
 pub mod Outsides
 pub mod Taking
 pub mod Connecting
 pub mod Texts
 pub mod Ways
+pub mod ServingLemmas
+pub mod Openings
+pub mod Keepings
+pub mod Kepts
+pub mod Noting

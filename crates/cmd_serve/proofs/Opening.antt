@@ -1,10 +1,7 @@
 -- A packet that opens to nothing is refused, for the first case that holds.
-use Rattle.std.proofs.Common.{◌≡◌, ℕ, zero, suc, ◌<◌, ◌≤◌, ◌+◌, ◌-◌, ◌*◌, ◌/◌, ◌%◌, ◌^◌, Bool, true, false, if◌then◌else◌, Option, Some, None, List, [], ◌++◌, length, take, drop, bytes_eq, refl, sym, ap, subst, ◌∙◌, arith, length-drop, drop-drop}
+use Rattle.std.proofs.Common.{◌≡◌, ℕ, zero, suc, ◌≤◌, ◌+◌, ◌-◌, ◌*◌, ◌/◌, ◌%◌, Bool, true, false, if◌then◌else◌, Option, Some, None, List, [], ◌++◌, length, take, drop, bytes_eq, refl, sym, ap, subst, ◌∙◌, arith, length-drop}
 use Rattle.std.proofs.lemmas.Bool.{and_from, and_parts, ltb-true, lt-ltb, leb-true, le-leb, eqb-true, eq-eqb}
-use Rattle.std.proofs.lemmas.List.{take-append-drop, length-take-le}
 use Rattle.std.proofs.lemmas.Slice.Eq.{bytes_eq-Decides}
-use Rattle.byteorder.specs.Endian.{little_bytes}
-use Rattle.byteorder.specs.Numbers.{little_from-lt}
 use Rattle.octets.specs.Bytes.{IsBytes, HasBytes, xor_bytes}
 use Rattle.aes_core.specs.Cipher.{inverse_aes}
 use Rattle.cipher_modes.specs.Ige.{inverse_ige, inverse_ige_after, inverse_ige_block}
@@ -18,11 +15,10 @@ use Rattle.envelope.specs.declared.parts.Envelope.{Envelope}
 use Rattle.envelope.specs.declared.refusal.Refusal.TheVariants as refusals
 use Rattle.envelope.specs.Lock.{ByteLaws}
 use Rattle.envelope.specs.Opening.{HasKey, HasPlain, IsBodyLength, IsGoodKey, IsPacketSize, IsRefused, Opens, key_named, length_said, message_key_said, padding_left, text_of}
-use Rattle.envelope.specs.Packet.{IsEnvelope, Lock, packet_of, plain_text}
+use Rattle.envelope.specs.Packet.{Lock}
 use Rattle.envelope.specs.Reading.{IsWhole, envelope_in}
 use Rattle.ring_rules.specs.Opening.{is_good_at, plain_in}
 use Rattle.cmd_serve.specs.Packets.{is_body_length, is_packet_size, refusal_by, refusal_in, refusal_of, refusal_under}
-use Rattle.cmd_serve.proofs.PlainTexts.{long_in_front, plain_text-envelope_in}
 
 -- ---- what is enciphered, deciphered, is bytes
 
@@ -54,93 +50,11 @@ module _ (append : (m n : ℕ) (xs ys : List ℕ) → HasBytes m xs → HasBytes
 
 -- ---- what the laws say of a lock
 
--- whole blocks of bytes are unlocked to as many bytes, and locked again to themselves
+-- whole blocks of bytes are unlocked to as many bytes, and a packet opens to what its plain text spells, where that is whole
 pub record IsReadable (lock : Lock) : Type 0 where
   pub unlocked : (key : List ℕ) (dir : Dir) (message_key text : List ℕ) (n : ℕ) → HasBytes (16 * n) text → HasBytes (16 * n) (lock.unlocked key dir message_key text)
-  pub locked_again : (key : List ℕ) (dir : Dir) (message_key text : List ℕ) (n : ℕ) → HasBytes (16 * n) text
-      → lock.locked key dir message_key (lock.unlocked key dir message_key text) ≡ text
-
--- ---- a packet whose plain text is whole opens
-
-numbers_fit : ByteLaws → (key : ℕ) (plain : List ℕ) → key < 2 ^ 64 → IsBytes plain → 32 ≤ length plain → IsBodyLength plain (length_said plain)
-    → IsEnvelope (envelope_in key plain)
-unfolding envelope_in
-numbers_fit laws key plain fits bytes enough said =
-    let room = length-drop 32 plain in
-    let within = said.within in
-    let body_length = length-take-le (length_said plain) (drop 32 plain) (omega arith) in
-    record {
-      key = fits;
-      salt = little_from-lt 0 8 plain bytes;
-      session = little_from-lt 0 8 (drop 8 plain) (laws.drop 8 plain bytes);
-      number = little_from-lt 0 8 (drop 16 plain) (laws.drop 16 plain bytes);
-      seq = little_from-lt 0 4 (drop 24 plain) (laws.drop 24 plain bytes);
-      bytes = laws.take (length_said plain) (drop 32 plain) (laws.drop 32 plain bytes);
-      words = rw body_length said.words;
-    }
-
-key_of-envelope_in : (key : ℕ) (plain : List ℕ) → (envelope_in key plain).key ≡ key
-unfolding envelope_in
-key_of-envelope_in key plain = refl
-
-body_of-envelope_in : (key : ℕ) (plain : List ℕ) → 32 ≤ length plain → length_said plain ≤ length plain - 32
-    → length (envelope_in key plain).body ≡ length_said plain
-unfolding envelope_in
-body_of-envelope_in key plain enough within = length-take-le (length_said plain) (drop 32 plain) (omega (arith, length-drop 32 plain))
-
-opens-whole : (lock : Lock) → IsReadable lock → ByteLaws → (ring : List RingKey) (now : ℕ) (dir : Dir) (packet plain : List ℕ)
-    → IsBytes packet → IsBytes plain → length plain ≡ length packet - 24 → HasPlain lock ring now dir packet plain → IsWhole plain
-    → Opens lock ring now dir packet (envelope_in (key_named packet) plain)
-opens-whole lock is laws ring now dir packet plain bytes plain_bytes long read whole =
-    let size = read.under.size in
-    let least = size.least in
-    let blocks = size.blocks in
-    let id = key_named packet in
-    let said = message_key_said packet in
-    let text = text_of packet in
-    let key = read.entry.key in
-    let envelope = envelope_in id plain in
-    let padding = drop (length_said plain) (drop 32 plain) in
-    let within = whole.body.within in
-    let padding_least = whole.padding.least in
-    let padding_most = whole.padding.most in
-    let text_bytes : HasBytes (16 * ((length packet - 24) / 16)) text = record {
-      count = omega (arith, length-drop 24 packet);
-      in_range = laws.drop 24 packet bytes;
-    } in
-    let plain_is : plain_text envelope padding ≡ plain = plain_text-envelope_in laws id plain plain_bytes (omega arith) within in
-    let key_is : envelope.key ≡ id = key_of-envelope_in id plain in
-    let message_key_is : lock.message_key key dir (plain_text envelope padding) ≡ said =
-    ap (lock.message_key key dir) plain_is ∙ sym read.message_key in
-    let text_is : lock.locked key dir said plain ≡ text =
-    ap (lock.locked key dir said) read.text ∙ is.locked_again key dir said text _ text_bytes in
-    let behind : said ++ text ≡ drop 8 packet =
-    ap (λ (l : List ℕ). said ++ l) (sym (drop-drop 16 8 packet)) ∙ take-append-drop 16 (drop 8 packet) in
-    let spelled : packet_of lock key dir envelope padding ≡ packet =
-    ap (λ (m : List ℕ). little_bytes 8 envelope.key ++ (m ++ lock.locked key dir m (plain_text envelope padding))) message_key_is
-    ∙ ap (λ (p : List ℕ). little_bytes 8 envelope.key ++ (said ++ lock.locked key dir said p)) plain_is
-    ∙ ap (λ (t : List ℕ). little_bytes 8 envelope.key ++ (said ++ t)) text_is
-    ∙ ap (λ (k : ℕ). little_bytes 8 k ++ (said ++ text)) key_is
-    ∙ long_in_front laws packet (said ++ text) (omega arith) bytes behind in
-    let body_is = body_of-envelope_in id plain (omega arith) within in
-    let padding_is : length padding ≡ padding_left plain = length-drop (length_said plain) (drop 32 plain) ∙ omega (arith, length-drop 32 plain) in
-    record {
-      padding = padding;
-      sealed = record {
-        entry = read.entry;
-        found = subst (λ (k : ℕ). entry_of k ring ≡ Some read.entry) (sym key_is) read.under.key.found;
-        lawful = numbers_fit laws id plain (little_from-lt 0 8 packet bytes) plain_bytes (omega arith) whole.body;
-        padded = record {
-          least = omega arith;
-          most = omega arith;
-          bytes = laws.drop (length_said plain) (drop 32 plain) (laws.drop 32 plain plain_bytes);
-          blocks = omega (arith, body_is, padding_is, blocks, long);
-        };
-        spelled = sym spelled;
-        fits = size.most;
-      };
-      good = read.under.key.good;
-    }
+  pub opens : (ring : List RingKey) (now : ℕ) (dir : Dir) (packet plain : List ℕ) → IsBytes packet → IsBytes plain → length plain ≡ length packet - 24
+      → HasPlain lock ring now dir packet plain → IsWhole plain → Opens lock ring now dir packet (envelope_in (key_named packet) plain)
 
 -- ---- tests
 
@@ -187,7 +101,7 @@ in-plain lock is laws ring now dir packet plain true bytes plain_bytes long read
   right_length = body-is plain so;
   counted = refl;
   wrong = λ right. none (envelope_in (key_named packet) plain)
-      (opens-whole lock is laws ring now dir packet plain bytes plain_bytes long read (record { body = body-is plain so; padding = right }));
+      (is.opens ring now dir packet plain bytes plain_bytes long read (record { body = body-is plain so; padding = right }));
 }
 in-plain lock is laws ring now dir packet plain false bytes plain_bytes long read none so = record {
   plain = plain;

@@ -10,10 +10,11 @@ use Rattle.envelope.specs.Packet.{Lock, Sealed}
 use Rattle.server_output.specs.Outs.{sealed_envelope}
 use Rattle.ring_rules.specs.Binding.{keys_of}
 use Rattle.ring_rules.specs.Opening.{opened}
+use Rattle.ring_rules.specs.Sealing.{packet_under}
 use Rattle.server_dispatch.specs.Rings.{AreOf}
 use Rattle.server_rules.specs.Event.{Sent}
 use Rattle.server_node.specs.Trace.{IsOutside, IsRead}
-use Rattle.cmd_serve.specs.Packets.{answer_of, outside_of, refusal_of, sealed_under, sealing_by}
+use Rattle.cmd_serve.specs.Packets.{answer_of, outside_of, refusal_of, sealing_by}
 use Rattle.cmd_serve.proofs.Opening.{IsReadable, refused-or-opens}
 
 -- the worked-out opening is the opening
@@ -27,7 +28,7 @@ read-so lock is laws ring so now packet bytes None same =
     refused-or-opens lock is laws ring now Up packet bytes (λ envelope opens. let both : None ≡ Some envelope = sym same ∙ (so now packet envelope).1 opens in cc)
 
 seals-so : (lock : Lock) (ring : List RingKey) (sent : Sent) (packet : List ℕ) → Sealed lock ring Down (sealed_envelope sent.envelope) sent.padding packet → sealing_by lock ring sent ≡ packet
-seals-so lock ring sent packet sealed = ap (λ (entry : Option RingKey). sealed_under lock entry sent) sealed.found ∙ sym sealed.spelled
+seals-so lock ring sent packet sealed = ap (λ (entry : Option RingKey). packet_under lock entry Down (sealed_envelope sent.envelope) sent.padding) sealed.found ∙ sym sealed.spelled
 
 pub outside-is : IsReadable mt_lock → ByteLaws → (ring : List RingKey) → OpensSo mt_lock ring → AreOf ring (keys_of ring) → IsOutside mt_lock ring (outside_of ring)
 unfolding outside_of

@@ -5,7 +5,6 @@ use Rattle.mt_edge.specs.Nets.{closed_at}
 use Rattle.mt_edge.specs.declared.net_call.NetCall.{NetCall}
 use Rattle.mt_edge.specs.declared.net_call.NetCall.TheVariants.{Accept}
 use Rattle.mt_edge.specs.declared.net_call.Outcome.TheVariants.{Open, Done}
-use Rattle.server_core.specs.declared.desk.DeskFault.{DeskFault}
 use Rattle.server_rules.specs.Server.{Server}
 use Rattle.server_node.specs.Connection.{ServerTrace, place_after}
 use Rattle.server_node.specs.Record.{Answered, ReadTo, Stops}
@@ -15,36 +14,34 @@ use Rattle.server_node.specs.Writes.{CountsBy}
 use Rattle.server_node.specs.declared.conn.ConnEnd.{ConnEnd}
 use Rattle.server_node.specs.declared.conn.ConnEnd.TheVariants as ends
 use Rattle.cmd_serve.specs.Connections.{Between, Connection, IsNoted, sight_at, talk_at}
-use Rattle.cmd_serve.specs.Inner.{IsNoJournal, Side, StandsAt, TookOne}
-
--- ---- how it ended
-
-pub no-journal : (end : ConnEnd) → ((fault : DeskFault) → end ≡ ends.Journal fault → ⊥) → IsNoJournal (Some end)
-no-journal ends.Ended none = tt
-no-journal ends.LinkFault none = tt
-no-journal (ends.Frame fault) none = tt
-no-journal ends.Start none = tt
-no-journal ends.TurnsSpent none = tt
-no-journal ends.Stopped none = tt
-no-journal (ends.Journal fault) none = none fault refl
-no-journal ends.Memory none = tt
+use Rattle.cmd_serve.specs.Inner.{IsBehind, Side, StandsAt, TookOne}
 
 -- ---- its trace
 
--- what the desk is said to stand for afterwards
-record Leaves {S V : Type 0} (end : ConnEnd) (desk : Server → Type 0) (drawn : S) (service : V) (talk : Talk S V) : Type 0 where
-  stands : desk talk.server
-  leaves : LeavesBy end (λ server. server ≡ talk.server) drawn service talk
+-- what is said of the desk afterwards
+leaves-own : {S V : Type 0} (end : ConnEnd) (desk : Server → Type 0) (drawn : S) (service : V) (talk : Talk S V) → LeavesBy end desk drawn service talk → LeavesBy end (λ server. server ≡ talk.server) drawn service talk
+leaves-own ends.Ended desk drawn service talk left = record { server = refl; draw = left.draw; served = left.served }
+leaves-own ends.LinkFault desk drawn service talk left = record { server = refl; draw = left.draw; served = left.served }
+leaves-own (ends.Frame fault) desk drawn service talk left = record { server = refl; draw = left.draw; served = left.served }
+leaves-own ends.Start desk drawn service talk left = record { server = refl; draw = left.draw; served = left.served }
+leaves-own ends.TurnsSpent desk drawn service talk left = record { server = refl; draw = left.draw; served = left.served }
+leaves-own ends.Stopped desk drawn service talk left = record { server = refl; draw = left.draw; served = left.served }
+leaves-own (ends.Journal fault) desk drawn service talk left = tt
+leaves-own ends.Memory desk drawn service talk left = (refl, left.1)
 
-leaves-behind : {S V : Type 0} (end : ConnEnd) (desk : Server → Type 0) (drawn : S) (service : V) (talk : Talk S V) → IsNoJournal (Some end) → LeavesBy end desk drawn service talk → Leaves end desk drawn service talk
-leaves-behind ends.Ended desk drawn service talk own left = record { stands = left.server; leaves = record { server = refl; draw = left.draw; served = left.served } }
-leaves-behind ends.LinkFault desk drawn service talk own left = record { stands = left.server; leaves = record { server = refl; draw = left.draw; served = left.served } }
-leaves-behind (ends.Frame fault) desk drawn service talk own left = record { stands = left.server; leaves = record { server = refl; draw = left.draw; served = left.served } }
-leaves-behind ends.Start desk drawn service talk own left = record { stands = left.server; leaves = record { server = refl; draw = left.draw; served = left.served } }
-leaves-behind ends.TurnsSpent desk drawn service talk own left = record { stands = left.server; leaves = record { server = refl; draw = left.draw; served = left.served } }
-leaves-behind ends.Stopped desk drawn service talk own left = record { stands = left.server; leaves = record { server = refl; draw = left.draw; served = left.served } }
-leaves-behind (ends.Journal fault) desk drawn service talk own left = absurd own
-leaves-behind ends.Memory desk drawn service talk own left = record { stands = left.0; leaves = (refl, left.1) }
+-- what stands behind it
+abbrev behind_of : {S V : Type 0} → Side S V → Server → Between S V
+behind_of later server = record { server = server; draw = later.drawn; service = later.service; given = later.given; left = later.left }
+
+is-behind : {S V : Type 0} (end : ConnEnd) (later : Side S V) (talk : Talk S V) → LeavesBy end later.desk later.drawn later.service talk → IsBehind end later (behind_of later talk.server)
+is-behind ends.Ended later talk left = record { server = left.server; draw = refl; served = refl; gave = refl; count = refl }
+is-behind ends.LinkFault later talk left = record { server = left.server; draw = refl; served = refl; gave = refl; count = refl }
+is-behind (ends.Frame fault) later talk left = record { server = left.server; draw = refl; served = refl; gave = refl; count = refl }
+is-behind ends.Start later talk left = record { server = left.server; draw = refl; served = refl; gave = refl; count = refl }
+is-behind ends.TurnsSpent later talk left = record { server = left.server; draw = refl; served = refl; gave = refl; count = refl }
+is-behind ends.Stopped later talk left = record { server = left.server; draw = refl; served = refl; gave = refl; count = refl }
+is-behind (ends.Journal fault) later talk left = record { draw = refl; served = refl; gave = refl; count = refl }
+is-behind ends.Memory later talk left = record { server = left.0; draw = refl; served = refl; gave = refl; count = refl }
 
 -- ---- what its net notes
 
@@ -101,7 +98,7 @@ module _ {S V : Type 0} (rules : Rules S V) (before : Between S V) (desk : Serve
       (subst (λ (gave : Option (List ℕ)). ServerTrace rules (talk_at before) (record { told = taken; given = gave; left = left }) end later.desk later.drawn later.service (record { told = given_back; given = later.given; left = later.left })) stands.gave
       (trace (talk_at before) begins-there))
 
-  pub took-one : (place faults : ℕ) (first between : Option (List NetCall)) → IsNoJournal (Some end)
+  pub took-one : (place faults : ℕ) (first between : Option (List NetCall))
       → ((talk : Talk S V) → Begins desk drawn service talk → ServerTrace rules talk (record { told = taken; given = given; left = left }) end later.desk later.drawn later.service (record { told = given_back; given = later.given; left = later.left }))
       → IfSome given_back (λ last. IsSomeAnd taken (λ begun. ReadTo end begun last))
       → CountsBy (Some end) 0 faults
@@ -111,11 +108,10 @@ module _ {S V : Type 0} (rules : Rules S V) (before : Between S V) (desk : Serve
       → IfSome first (λ front. place ≡ length front)
       → IfSome later.calls (λ after. IsSomeAnd between (λ front. IsSomeAnd given_back (λ told. after ≡ closed_at place told faults front)))
       → TookOne rules before first end later
-  took-one place faults first between own trace read counted answered opened fresh at closed =
+  took-one place faults first between trace read counted answered opened fresh at closed =
       let whole = trace-there trace in
       let talk : Talk S V = (place_after rules (talk_at before) whole.turns whole.close).talk in
-      let leaves = leaves-behind end later.desk later.drawn later.service talk own whole.leaves in
-      let behind : Between S V = record { server = talk.server; draw = later.drawn; service = later.service; given = later.given; left = later.left } in
+      let behind : Between S V = behind_of later talk.server in
       record {
         one = one_of end taken given_back faults behind;
         ended = refl;
@@ -128,7 +124,7 @@ module _ {S V : Type 0} (rules : Rules S V) (before : Between S V) (desk : Serve
             closed = whole.closed;
             behind = whole.behind;
             ended = whole.ended;
-            leaves = leaves.leaves;
+            leaves = leaves-own end later.desk later.drawn later.service talk whole.leaves;
             owes = whole.owes;
             shows = whole.shows;
             breaks = whole.breaks;
@@ -139,7 +135,7 @@ module _ {S V : Type 0} (rules : Rules S V) (before : Between S V) (desk : Serve
           counted = counted;
           left = subst (λ (count : Option ℕ). Answered (Some end) count later.left) stands.count answered;
         };
-        stands = record { server = leaves.stands; draw = refl; served = refl; gave = refl; count = refl };
+        stands = is-behind end later talk whole.leaves;
         noted = noted-one end behind place faults first between later.calls taken given_back opened fresh at closed;
       }
 

@@ -2,7 +2,7 @@
 use Rattle.std.proofs.Common.{◌≡◌, ◌≢◌, ◌<◌, ◌≤◌, ◌+◌, ◌⊎◌, inl, inr, ℕ, List, [], ◌∷◌, ◌++◌, length, Option, Some, None, IfSome, IsSome, IsSomeAnd, Result, Ok, refl, sym, ap, subst, ◌∙◌, append_assoc, append-nil, length-append, arith}
 use Rattle.auth_keys.specs.KeyFile.{IsFaultOf, IsRingOf}
 use Rattle.auth_keys.specs.declared.fault.KeyFault.{KeyFault}
-use Rattle.auth_keys.specs.declared.fault.KeyFault.TheVariants as faults
+use Rattle.auth_keys.specs.declared.fault.KeyFault.TheVariants as keys_faults
 use Rattle.auth_keys.specs.declared.ring.RingKey.{RingKey}
 use Rattle.commands.specs.declared.command.ServeOptions.{ServeOptions}
 use Rattle.key_files.specs.Files.{AsksOnce, GivesBy, HasText, IsFileOf, IsRefusedAt, line_of}
@@ -12,25 +12,27 @@ use Rattle.mt_edge.specs.declared.act.Act.TheVariants.{Ready, Failed as NotReady
 use Rattle.mt_edge.specs.declared.net_call.NetCall.{NetCall}
 use Rattle.mt_edge.specs.declared.net_call.NetCall.TheVariants.{Accept, Listen}
 use Rattle.mt_edge.specs.declared.net_call.Outcome.TheVariants.{Failed}
+use Rattle.disks.specs.Named.{NamesTold}
 use Rattle.statuses.specs.Outside.{HadFault, Outside, Part, Tells}
 use Rattle.statuses.specs.declared.status.Status.{Status}
 use Rattle.statuses.specs.declared.status.Status.TheVariants as status
 use Rattle.cmd_serve.specs.Connections.{AreNoted, AreNotedBy, Connection, CountsEnding, EndsBy}
-use Rattle.cmd_serve.specs.Inner.{IsWith, RunsWith, ServesWith}
+use Rattle.cmd_serve.specs.Inner.{IsWith, RunsWith}
+use Rattle.cmd_serve.specs.Journals.{Drawing, HoldsSome, IsFilled, IsOpen, Keeping, Unopened, Faulty, Foreign, Cut, New, Old}
 use Rattle.cmd_serve.specs.Lines.{listening}
-use Rattle.cmd_serve.specs.Runs.{Calls, CountsFiles, CountsNet, Course, Draws, Unread, Refused, Unbegun, Deaf, Mute, Serves, Ends, FailsNever, FailsOnce, HasKeys, IfTold, Makes, Moments, Reads, Registers, ServeRun, ServesBy, WritesFirst}
+use Rattle.cmd_serve.specs.Runs.{Calls, CountsDisks, CountsFiles, CountsNet, Course, Draws, Unread, Refused, Unbegun, Shut, Deaf, Mute, Serves, Ends, EndsShut, FailsNever, FailsOnce, GoesBy, HasKeys, IfTold, IsFull, Makes, Moments, Reads, Registers, ServeRun, WritesFirst}
 use Rattle.cmd_serve.specs.declared.ending.Ending.{Ending}
-use Rattle.cmd_serve.specs.declared.ending.Ending.TheVariants.{Served, Stopped, NotTaken, Memory}
+use Rattle.cmd_serve.specs.declared.ending.Ending.TheVariants.{Served, Stopped, NotTaken, Journal, Full, Memory}
 use Rattle.cmd_serve.proofs.Texts.{rose-once}
 
 -- ---- the text of a key file
 
 -- a text has one reading
 pub record OneReading : Type 0 where
-  pub no_fault : (text : List ℕ) (ring : List RingKey) (fault : KeyFault) → IsRingOf text ring → IsFaultOf text fault → fault ≡ faults.Memory
-  pub fault : (text : List ℕ) (one other : KeyFault) → one ≢ faults.Memory → other ≢ faults.Memory → IsFaultOf text one → IsFaultOf text other → one ≡ other
+  pub no_fault : (text : List ℕ) (ring : List RingKey) (fault : KeyFault) → IsRingOf text ring → IsFaultOf text fault → fault ≡ keys_faults.Memory
+  pub fault : (text : List ℕ) (one other : KeyFault) → one ≢ keys_faults.Memory → other ≢ keys_faults.Memory → IsFaultOf text one → IsFaultOf text other → one ≡ other
 
-no-line : (fault : KeyFault) (line : ℕ) → line_of fault ≡ Some line → fault ≡ faults.Memory → ⊥
+no-line : (fault : KeyFault) (line : ℕ) → line_of fault ≡ Some line → fault ≡ keys_faults.Memory → ⊥
 no-line fault line on is = let none : None ≡ Some line = sym (ap line_of is) ∙ on in cc
 
 ring-or-fault : OneReading → (text : List ℕ) (ring : List RingKey) (line : ℕ) → IsRingOf text ring → IsRefusedAt text line → ⊥
@@ -52,6 +54,7 @@ keys-with : {D : Type 0} (told : Option FilesTold) (name : List ℕ) (ring : Lis
 keys-with told name ring Unread own has = absurd own
 keys-with told name ring (Refused line) own has = absurd own
 keys-with told name ring Unbegun own has = tt
+keys-with told name ring (Shut other) own has = subst (λ (one : List RingKey). HasText told name (λ text. IsRingOf text one)) (sym own) has
 keys-with told name ring (Deaf other) own has = subst (λ (one : List RingKey). HasText told name (λ text. IsRingOf text one)) (sym own) has
 keys-with told name ring (Mute other) own has = subst (λ (one : List RingKey). HasText told name (λ text. IsRingOf text one)) (sym own) has
 keys-with told name ring (Serves other connections ending) own has = subst (λ (one : List RingKey). HasText told name (λ text. IsRingOf text one)) (sym own) has
@@ -60,6 +63,7 @@ counts-with : {D F : Type 0} (files : Part FilesTold F) (ring : List RingKey) (c
 counts-with files ring Unread own never = absurd own
 counts-with files ring (Refused line) own never = absurd own
 counts-with files ring Unbegun own never = never
+counts-with files ring (Shut other) own never = never
 counts-with files ring (Deaf other) own never = never
 counts-with files ring (Mute other) own never = never
 counts-with files ring (Serves other connections ending) own never = never
@@ -104,6 +108,7 @@ abbrev IsRefusal : {D : Type 0} → Course D → Type 0
 IsRefusal Unread = ⊥
 IsRefusal (Refused line) = Unit {0}
 IsRefusal Unbegun = ⊥
+IsRefusal (Shut ring) = ⊥
 IsRefusal (Deaf ring) = ⊥
 IsRefusal (Mute ring) = ⊥
 IsRefusal (Serves ring connections ending) = ⊥
@@ -157,6 +162,9 @@ made-none (Some calls) = ([], sym (append-nil calls), refl)
 pub calls-none : {D N : Type 0} (port : ℕ) (told : N → Option (List NetCall)) (faults : N → ℕ) (net : N) → Calls {D = D} {N = N} port (record { told = told; faults = faults; before = net; after = net }) Unbegun
 calls-none port told faults net = record { made = made-none (told net); counted = refl; tells = λ is none. is }
 
+pub calls-shut : {D N : Type 0} (port : ℕ) (told : N → Option (List NetCall)) (faults : N → ℕ) (net : N) (ring : List RingKey) → Calls {D = D} {N = N} port (record { told = told; faults = faults; before = net; after = net }) (Shut ring)
+calls-shut port told faults net ring = record { made = made-none (told net); counted = refl; tells = λ is none. is }
+
 calls-unread : {D N : Type 0} (port : ℕ) (told : N → Option (List NetCall)) (faults : N → ℕ) (net : N) → Calls {D = D} {N = N} port (record { told = told; faults = faults; before = net; after = net }) Unread
 calls-unread port told faults net = record { made = made-none (told net); counted = refl; tells = λ is none. is }
 
@@ -190,14 +198,14 @@ pub calls-mute : {D N : Type 0} (port : ℕ) (net : Part (List NetCall) N) (ring
     → (IsSome (net.told net.before) → net.faults net.before ≡ 0 → IsSome (net.told net.after)) → Calls {D = D} {N = N} port net (Mute ring)
 calls-mute port net ring told never tells = record { made = made-one (net.told net.before) (net.told net.after) (Listen port Ready) told; counted = never; tells = tells }
 
-pub calls-serves : {D N : Type 0} (step : D → ℕ × D) (options : ServeOptions) (told : N → Option (List NetCall)) (faults : N → ℕ) (first middle last : N) (ring : List RingKey) (moments : Moments) (draws : Draws D) (ending : Ending)
-    → IfSome (told middle) (λ after. IsSomeAnd (told first) (λ before. after ≡ before ++ Listen options.port Ready ∷ [])) → faults middle ≡ faults first
+pub calls-serves : {D N : Type 0} (port : ℕ) (told : N → Option (List NetCall)) (faults : N → ℕ) (first middle last : N) (ring : List RingKey) (connections : List (Connection D Registers)) (ending : Ending)
+    → IfSome (told middle) (λ after. IsSomeAnd (told first) (λ before. after ≡ before ++ Listen port Ready ∷ [])) → faults middle ≡ faults first
     → (IsSome (told first) → faults first ≡ 0 → IsSome (told middle))
-    → (serves : ServesWith step options ring (told middle) (told last) moments draws ending) → CountsEnding ending (faults middle) (faults last)
+    → IfSome (told last) (λ after. IsSomeAnd (told middle) (λ before. (made : List NetCall) × (after ≡ before ++ made) × AreNotedBy ending connections made)) → CountsEnding ending (faults middle) (faults last)
     → (IsSome (told middle) → faults middle ≡ 0 → IsSome (told last))
-    → Calls options.port (record { told = told; faults = faults; before = first; after = last }) (Serves ring serves.connections ending)
-calls-serves step options told faults first middle last ring moments draws ending listened never goes serves counted tells = record {
-  made = made-both (told first) (told middle) (told last) (Listen options.port Ready) (AreNotedBy ending serves.connections) listened serves.noted;
+    → Calls port (record { told = told; faults = faults; before = first; after = last }) (Serves ring connections ending)
+calls-serves port told faults first middle last ring connections ending listened never goes noted counted tells = record {
+  made = made-both (told first) (told middle) (told last) (Listen port Ready) (AreNotedBy ending connections) listened noted;
   counted = subst (λ (count : ℕ). CountsEnding ending count (faults last)) never counted;
   tells = λ is none. tells (goes is none) (never ∙ none);
 }
@@ -208,45 +216,115 @@ write-fault-of : {O : Type 0} (out : Outside O) (due : Status) (text : List ℕ)
 write-fault-of out due text one (inl done) other is = absurd (other (sym done.0 ∙ is))
 write-fault-of out due text one (inr failed) other is = failed.1
 
-write-fault : {D O : Type 0} (options : ServeOptions) (out : Outside O) (course : Course D) (one : Status) → Ends options out course one → one ≡ status.WriteFault → HadFault out
-write-fault options out Unread one ends is = write-fault-of out status.KeysRefused _ one ends (λ same. cc) is
-write-fault options out (Refused line) one ends is = write-fault-of out status.KeysRefused _ one ends (λ same. cc) is
-write-fault options out Unbegun one ends is = let both : status.Memory ≡ status.WriteFault = sym ends.0 ∙ is in cc
-write-fault options out (Deaf ring) one ends is = write-fault-of out status.NotListening _ one ends (λ same. cc) is
-write-fault options out (Mute ring) one ends is = ends.1
-write-fault options out (Serves ring connections Served) one ends is = write-fault-of out status.Done _ one ends.1 (λ same. cc) is
-write-fault options out (Serves ring connections Stopped) one ends is = write-fault-of out status.Done _ one ends.1 (λ same. cc) is
-write-fault options out (Serves ring connections NotTaken) one ends is = write-fault-of out status.NotListening _ one ends.1 (λ same. cc) is
-write-fault options out (Serves ring connections Memory) one ends is = let both : status.Memory ≡ status.WriteFault = sym ends.1.0 ∙ is in cc
+write-fault : {D O : Type 0} (options : ServeOptions) (out : Outside O) (keeping : Keeping) (course : Course D) (one : Status) → Ends options out keeping course one → one ≡ status.WriteFault → HadFault out
+write-fault options out keeping Unread one ends is = write-fault-of out status.KeysRefused _ one ends (λ same. cc) is
+write-fault options out keeping (Refused line) one ends is = write-fault-of out status.KeysRefused _ one ends (λ same. cc) is
+write-fault options out keeping Unbegun one ends is = let both : status.Memory ≡ status.WriteFault = sym ends.0 ∙ is in cc
+write-fault options out Unopened (Shut ring) one ends is = absurd ends
+write-fault options out Faulty (Shut ring) one ends is = write-fault-of out status.JournalFault _ one ends (λ same. cc) is
+write-fault options out (Foreign at) (Shut ring) one ends is = write-fault-of out status.JournalFault _ one ends (λ same. cc) is
+write-fault options out Cut (Shut ring) one ends is = let both : status.Memory ≡ status.WriteFault = sym ends.0 ∙ is in cc
+write-fault options out (New seed) (Shut ring) one ends is = absurd ends
+write-fault options out (Old seed entries now) (Shut ring) one ends is = absurd ends
+write-fault options out keeping (Deaf ring) one ends is = write-fault-of out status.NotListening _ one ends (λ same. cc) is
+write-fault options out keeping (Mute ring) one ends is = ends.1
+write-fault options out keeping (Serves ring connections Served) one ends is = write-fault-of out status.Done _ one ends.1 (λ same. cc) is
+write-fault options out keeping (Serves ring connections Stopped) one ends is = write-fault-of out status.Done _ one ends.1 (λ same. cc) is
+write-fault options out keeping (Serves ring connections NotTaken) one ends is = write-fault-of out status.NotListening _ one ends.1 (λ same. cc) is
+write-fault options out keeping (Serves ring connections Journal) one ends is = write-fault-of out status.JournalFault _ one ends.1 (λ same. cc) is
+write-fault options out keeping (Serves ring connections Full) one ends is = write-fault-of out status.JournalFault _ one ends.1 (λ same. cc) is
+write-fault options out keeping (Serves ring connections Memory) one ends is = let both : status.Memory ≡ status.WriteFault = sym ends.1.0 ∙ is in cc
 
 -- a status other than that of the course, or of a write fault, doesn't come
 other-status : {O : Type 0} (out : Outside O) (due : Status) (text : List ℕ) (one which : Status) → Tells out due text one → (due ≡ which → ⊥) → (status.WriteFault ≡ which → ⊥) → one ≡ which → ⊥
 other-status out due text one which (inl done) other never is = other (sym done.0 ∙ is)
 other-status out due text one which (inr failed) other never is = never (sym failed.0 ∙ is)
 
-not-listening : {D N O : Type 0} (options : ServeOptions) (net : Part (List NetCall) N) (out : Outside O) (course : Course D) (one : Status) → CountsNet net course → Ends options out course one
-    → one ≡ status.NotListening → HadFault net
-not-listening options net out Unread one counted ends is = absurd (other-status out status.KeysRefused _ one status.NotListening ends (λ same. cc) (λ same. cc) is)
-not-listening options net out (Refused line) one counted ends is = absurd (other-status out status.KeysRefused _ one status.NotListening ends (λ same. cc) (λ same. cc) is)
-not-listening options net out Unbegun one counted ends is = let both : status.Memory ≡ status.NotListening = sym ends.0 ∙ is in cc
-not-listening options net out (Deaf ring) one counted ends is = rose-once (net.faults net.before) (net.faults net.after) counted
-not-listening options net out (Mute ring) one counted ends is = let both : status.WriteFault ≡ status.NotListening = sym ends.0 ∙ is in cc
-not-listening options net out (Serves ring connections Served) one counted ends is = absurd (other-status out status.Done _ one status.NotListening ends.1 (λ same. cc) (λ same. cc) is)
-not-listening options net out (Serves ring connections Stopped) one counted ends is = absurd (other-status out status.Done _ one status.NotListening ends.1 (λ same. cc) (λ same. cc) is)
-not-listening options net out (Serves ring connections NotTaken) one counted ends is = rose-once (net.faults net.before) (net.faults net.after) counted
-not-listening options net out (Serves ring connections Memory) one counted ends is = let both : status.Memory ≡ status.NotListening = sym ends.1.0 ∙ is in cc
+-- nor where no server comes of the journal's file
+shut-status : {O : Type 0} (out : Outside O) (keeping : Keeping) (one which : Status) → EndsShut out keeping one → (status.JournalFault ≡ which → ⊥) → (status.WriteFault ≡ which → ⊥) → (status.Memory ≡ which → ⊥) → one ≡ which → ⊥
+shut-status out Unopened one which ends other never short is = ends
+shut-status out Faulty one which ends other never short is = other-status out status.JournalFault _ one which ends other never is
+shut-status out (Foreign at) one which ends other never short is = other-status out status.JournalFault _ one which ends other never is
+shut-status out Cut one which ends other never short is = short (sym ends.0 ∙ is)
+shut-status out (New seed) one which ends other never short is = ends
+shut-status out (Old seed entries now) one which ends other never short is = ends
 
-keys-refused : {D F O : Type 0} (options : ServeOptions) (files : Part FilesTold F) (out : Outside O) (course : Course D) (one : Status) → CountsFiles files course → Ends options out course one
+not-listening : {D N O : Type 0} (options : ServeOptions) (net : Part (List NetCall) N) (out : Outside O) (keeping : Keeping) (course : Course D) (one : Status) → CountsNet net course → Ends options out keeping course one
+    → one ≡ status.NotListening → HadFault net
+not-listening options net out keeping Unread one counted ends is = absurd (other-status out status.KeysRefused _ one status.NotListening ends (λ same. cc) (λ same. cc) is)
+not-listening options net out keeping (Refused line) one counted ends is = absurd (other-status out status.KeysRefused _ one status.NotListening ends (λ same. cc) (λ same. cc) is)
+not-listening options net out keeping Unbegun one counted ends is = let both : status.Memory ≡ status.NotListening = sym ends.0 ∙ is in cc
+not-listening options net out keeping (Shut ring) one counted ends is = absurd (shut-status out keeping one status.NotListening ends (λ same. cc) (λ same. cc) (λ same. cc) is)
+not-listening options net out keeping (Deaf ring) one counted ends is = rose-once (net.faults net.before) (net.faults net.after) counted
+not-listening options net out keeping (Mute ring) one counted ends is = let both : status.WriteFault ≡ status.NotListening = sym ends.0 ∙ is in cc
+not-listening options net out keeping (Serves ring connections Served) one counted ends is = absurd (other-status out status.Done _ one status.NotListening ends.1 (λ same. cc) (λ same. cc) is)
+not-listening options net out keeping (Serves ring connections Stopped) one counted ends is = absurd (other-status out status.Done _ one status.NotListening ends.1 (λ same. cc) (λ same. cc) is)
+not-listening options net out keeping (Serves ring connections NotTaken) one counted ends is = rose-once (net.faults net.before) (net.faults net.after) counted
+not-listening options net out keeping (Serves ring connections Journal) one counted ends is = absurd (other-status out status.JournalFault _ one status.NotListening ends.1 (λ same. cc) (λ same. cc) is)
+not-listening options net out keeping (Serves ring connections Full) one counted ends is = absurd (other-status out status.JournalFault _ one status.NotListening ends.1 (λ same. cc) (λ same. cc) is)
+not-listening options net out keeping (Serves ring connections Memory) one counted ends is = let both : status.Memory ≡ status.NotListening = sym ends.1.0 ∙ is in cc
+
+keys-refused : {D F O : Type 0} (options : ServeOptions) (files : Part FilesTold F) (out : Outside O) (keeping : Keeping) (course : Course D) (one : Status) → CountsFiles files course → Ends options out keeping course one
     → one ≡ status.KeysRefused → HadFault files ⊎ ((line : ℕ) × (course ≡ Refused line))
-keys-refused options files out Unread one counted ends is = inl (rose-once (files.faults files.before) (files.faults files.after) counted)
-keys-refused options files out (Refused line) one counted ends is = inr (line, refl)
-keys-refused options files out Unbegun one counted ends is = let both : status.Memory ≡ status.KeysRefused = sym ends.0 ∙ is in cc
-keys-refused options files out (Deaf ring) one counted ends is = absurd (other-status out status.NotListening _ one status.KeysRefused ends (λ same. cc) (λ same. cc) is)
-keys-refused options files out (Mute ring) one counted ends is = let both : status.WriteFault ≡ status.KeysRefused = sym ends.0 ∙ is in cc
-keys-refused options files out (Serves ring connections Served) one counted ends is = absurd (other-status out status.Done _ one status.KeysRefused ends.1 (λ same. cc) (λ same. cc) is)
-keys-refused options files out (Serves ring connections Stopped) one counted ends is = absurd (other-status out status.Done _ one status.KeysRefused ends.1 (λ same. cc) (λ same. cc) is)
-keys-refused options files out (Serves ring connections NotTaken) one counted ends is = absurd (other-status out status.NotListening _ one status.KeysRefused ends.1 (λ same. cc) (λ same. cc) is)
-keys-refused options files out (Serves ring connections Memory) one counted ends is = let both : status.Memory ≡ status.KeysRefused = sym ends.1.0 ∙ is in cc
+keys-refused options files out keeping Unread one counted ends is = inl (rose-once (files.faults files.before) (files.faults files.after) counted)
+keys-refused options files out keeping (Refused line) one counted ends is = inr (line, refl)
+keys-refused options files out keeping Unbegun one counted ends is = let both : status.Memory ≡ status.KeysRefused = sym ends.0 ∙ is in cc
+keys-refused options files out keeping (Shut ring) one counted ends is = absurd (shut-status out keeping one status.KeysRefused ends (λ same. cc) (λ same. cc) (λ same. cc) is)
+keys-refused options files out keeping (Deaf ring) one counted ends is = absurd (other-status out status.NotListening _ one status.KeysRefused ends (λ same. cc) (λ same. cc) is)
+keys-refused options files out keeping (Mute ring) one counted ends is = let both : status.WriteFault ≡ status.KeysRefused = sym ends.0 ∙ is in cc
+keys-refused options files out keeping (Serves ring connections Served) one counted ends is = absurd (other-status out status.Done _ one status.KeysRefused ends.1 (λ same. cc) (λ same. cc) is)
+keys-refused options files out keeping (Serves ring connections Stopped) one counted ends is = absurd (other-status out status.Done _ one status.KeysRefused ends.1 (λ same. cc) (λ same. cc) is)
+keys-refused options files out keeping (Serves ring connections NotTaken) one counted ends is = absurd (other-status out status.NotListening _ one status.KeysRefused ends.1 (λ same. cc) (λ same. cc) is)
+keys-refused options files out keeping (Serves ring connections Journal) one counted ends is = absurd (other-status out status.JournalFault _ one status.KeysRefused ends.1 (λ same. cc) (λ same. cc) is)
+keys-refused options files out keeping (Serves ring connections Full) one counted ends is = absurd (other-status out status.JournalFault _ one status.KeysRefused ends.1 (λ same. cc) (λ same. cc) is)
+keys-refused options files out keeping (Serves ring connections Memory) one counted ends is = let both : status.Memory ≡ status.KeysRefused = sym ends.1.0 ∙ is in cc
+
+-- the journal's fault
+
+broken-kept : {D K : Type 0} (disks : Part NamesTold K) (ring : List RingKey) (connections : List (Connection D Registers)) (keeping : Keeping) → IsOpen keeping
+    → CountsDisks disks keeping (Serves ring connections Journal) → HadFault disks
+broken-kept disks ring connections Unopened opens counted = absurd opens
+broken-kept disks ring connections Faulty opens counted = absurd opens
+broken-kept disks ring connections (Foreign at) opens counted = absurd opens
+broken-kept disks ring connections Cut opens counted = absurd opens
+broken-kept disks ring connections (New seed) opens counted = rose-once (disks.faults disks.before) (disks.faults disks.after) counted
+broken-kept disks ring connections (Old seed entries now) opens counted = rose-once (disks.faults disks.before) (disks.faults disks.after) counted
+
+broken-run : {D K : Type 0} (drawing : Drawing D) (options : ServeOptions) (journal : Option (List ℕ)) (disks : Part NamesTold K) (moments : Moments) (draws : Draws D) (keeping : Keeping) (ring : List RingKey) (connections : List (Connection D Registers))
+    → GoesBy drawing options journal disks moments draws keeping (Serves ring connections Journal) → CountsDisks disks keeping (Serves ring connections Journal) → HadFault disks
+broken-run drawing options None disks moments draws keeping ring connections goes counted = absurd (goes.2 tt)
+broken-run drawing options (Some name) disks moments draws keeping ring connections goes counted = broken-kept disks ring connections keeping goes.0.opened counted
+
+-- where no server comes of the file
+shut-by : {D K O : Type 0} (disks : Part NamesTold K) (out : Outside O) (keeping : Keeping) (course : Course D) (one : Status) → EndsShut out keeping one → CountsDisks disks keeping course
+    → one ≡ status.JournalFault → HadFault disks ⊎ ((at : ℕ) × (keeping ≡ Foreign at))
+shut-by disks out Unopened course one ends counted is = absurd ends
+shut-by disks out Faulty course one ends counted is = inl (rose-once (disks.faults disks.before) (disks.faults disks.after) counted)
+shut-by disks out (Foreign at) course one ends counted is = inr (at, refl)
+shut-by disks out Cut course one ends counted is = let both : status.Memory ≡ status.JournalFault = sym ends.0 ∙ is in cc
+shut-by disks out (New seed) course one ends counted is = absurd ends
+shut-by disks out (Old seed entries now) course one ends counted is = absurd ends
+
+first-two : {P Q : Type 0} (R : Type 0) → P ⊎ Q → P ⊎ Q ⊎ R
+first-two R (inl p) = inl p
+first-two R (inr q) = inr (inl q)
+
+no-journal : {D K O : Type 0} (drawing : Drawing D) (options : ServeOptions) (disks : Part NamesTold K) (moments : Moments) (draws : Draws D) (out : Outside O) (keeping : Keeping) (course : Course D) (one : Status)
+    → GoesBy drawing options options.journal disks moments draws keeping course → CountsDisks disks keeping course → Ends options out keeping course one
+    → one ≡ status.JournalFault → HadFault disks ⊎ ((at : ℕ) × (keeping ≡ Foreign at)) ⊎ IsFull course
+no-journal drawing options disks moments draws out keeping Unread one goes counted ends is = absurd (other-status out status.KeysRefused _ one status.JournalFault ends (λ same. cc) (λ same. cc) is)
+no-journal drawing options disks moments draws out keeping (Refused line) one goes counted ends is = absurd (other-status out status.KeysRefused _ one status.JournalFault ends (λ same. cc) (λ same. cc) is)
+no-journal drawing options disks moments draws out keeping Unbegun one goes counted ends is = let both : status.Memory ≡ status.JournalFault = sym ends.0 ∙ is in cc
+no-journal drawing options disks moments draws out keeping (Shut ring) one goes counted ends is = first-two ⊥ (shut-by disks out keeping (Shut ring) one ends counted is)
+no-journal drawing options disks moments draws out keeping (Deaf ring) one goes counted ends is = absurd (other-status out status.NotListening _ one status.JournalFault ends (λ same. cc) (λ same. cc) is)
+no-journal drawing options disks moments draws out keeping (Mute ring) one goes counted ends is = let both : status.WriteFault ≡ status.JournalFault = sym ends.0 ∙ is in cc
+no-journal drawing options disks moments draws out keeping (Serves ring connections Served) one goes counted ends is = absurd (other-status out status.Done _ one status.JournalFault ends.1 (λ same. cc) (λ same. cc) is)
+no-journal drawing options disks moments draws out keeping (Serves ring connections Stopped) one goes counted ends is = absurd (other-status out status.Done _ one status.JournalFault ends.1 (λ same. cc) (λ same. cc) is)
+no-journal drawing options disks moments draws out keeping (Serves ring connections NotTaken) one goes counted ends is = absurd (other-status out status.NotListening _ one status.JournalFault ends.1 (λ same. cc) (λ same. cc) is)
+no-journal drawing options disks moments draws out keeping (Serves ring connections Journal) one goes counted ends is =
+    inl (broken-run drawing options options.journal disks moments draws keeping ring connections goes counted)
+no-journal drawing options disks moments draws out keeping (Serves ring connections Full) one goes counted ends is = inr (inr tt)
+no-journal drawing options disks moments draws out keeping (Serves ring connections Memory) one goes counted ends is = let both : status.Memory ≡ status.JournalFault = sym ends.1.0 ∙ is in cc
 
 -- ---- nothing but a fault or want of memory keeps it from being done
 
@@ -254,27 +332,50 @@ done-or-fault : {O : Type 0} (out : Outside O) (text : List ℕ) (one : Status) 
 done-or-fault out text one none (inl done) = inl done.0
 done-or-fault out text one none (inr failed) = absurd (none failed.1)
 
-done-without-fault : {D F N O : Type 0} (options : ServeOptions) (files : Part FilesTold F) (net : Part (List NetCall) N) (out : Outside O) (course : Course D) (one : Status)
-    → CountsFiles files course → CountsNet net course → Ends options out course one → ((line : ℕ) → course ≡ Refused line → ⊥)
-    → (HadFault files → ⊥) → (HadFault net → ⊥) → (HadFault out → ⊥) → (one ≡ status.Done) ⊎ (one ≡ status.Memory)
-done-without-fault options files net out Unread one read called ends ring file call write = absurd (file (rose-once (files.faults files.before) (files.faults files.after) read))
-done-without-fault options files net out (Refused line) one read called ends ring file call write = absurd (ring line refl)
-done-without-fault options files net out Unbegun one read called ends ring file call write = inr ends.0
-done-without-fault options files net out (Deaf own) one read called ends ring file call write = absurd (call (rose-once (net.faults net.before) (net.faults net.after) called))
-done-without-fault options files net out (Mute own) one read called ends ring file call write = absurd (write ends.1)
-done-without-fault options files net out (Serves own connections Served) one read called ends ring file call write = done-or-fault out _ one write ends.1
-done-without-fault options files net out (Serves own connections Stopped) one read called ends ring file call write = done-or-fault out _ one write ends.1
-done-without-fault options files net out (Serves own connections NotTaken) one read called ends ring file call write = absurd (call (rose-once (net.faults net.before) (net.faults net.after) called))
-done-without-fault options files net out (Serves own connections Memory) one read called ends ring file call write = inr ends.1.0
+shut-or-short : {D K O : Type 0} (disks : Part NamesTold K) (out : Outside O) (keeping : Keeping) (course : Course D) (one : Status) → EndsShut out keeping one → CountsDisks disks keeping course
+    → (HadFault disks → ⊥) → ((at : ℕ) → keeping ≡ Foreign at → ⊥) → one ≡ status.Memory
+shut-or-short disks out Unopened course one ends counted call own = absurd ends
+shut-or-short disks out Faulty course one ends counted call own = absurd (call (rose-once (disks.faults disks.before) (disks.faults disks.after) counted))
+shut-or-short disks out (Foreign at) course one ends counted call own = absurd (own at refl)
+shut-or-short disks out Cut course one ends counted call own = ends.0
+shut-or-short disks out (New seed) course one ends counted call own = absurd ends
+shut-or-short disks out (Old seed entries now) course one ends counted call own = absurd ends
 
-complete : {D F N O : Type 0} (options : ServeOptions) (files : Part FilesTold F) (net : Part (List NetCall) N) (out : Outside O) (course : Course D) (one : Status) (told : Option FilesTold)
-    → CountsFiles files course → CountsNet net course → Ends options out course one
+-- no fault of an outside is counted, the file is empty or a journal, and the journal has room
+record IsCalm {F N O K D : Type 0} (files : Part FilesTold F) (net : Part (List NetCall) N) (out : Outside O) (disks : Part NamesTold K) (keeping : Keeping) (course : Course D) : Type 0 where
+  pub file : HadFault files → ⊥
+  pub call : HadFault net → ⊥
+  pub write : HadFault out → ⊥
+  pub disk : HadFault disks → ⊥
+  pub own : (at : ℕ) → keeping ≡ Foreign at → ⊥
+  pub room : IsFull course → ⊥
+
+done-without-fault : {D F N O K : Type 0} (drawing : Drawing D) (options : ServeOptions) (files : Part FilesTold F) (net : Part (List NetCall) N) (out : Outside O) (moments : Moments) (draws : Draws D) (disks : Part NamesTold K) (keeping : Keeping) (course : Course D) (one : Status)
+    → CountsFiles files course → CountsNet net course → GoesBy drawing options options.journal disks moments draws keeping course → CountsDisks disks keeping course → Ends options out keeping course one → ((line : ℕ) → course ≡ Refused line → ⊥)
+    → IsCalm files net out disks keeping course → (one ≡ status.Done) ⊎ (one ≡ status.Memory)
+done-without-fault drawing options files net out moments draws disks keeping Unread one read called goes counted ends ring calm = absurd (calm.file (rose-once (files.faults files.before) (files.faults files.after) read))
+done-without-fault drawing options files net out moments draws disks keeping (Refused line) one read called goes counted ends ring calm = absurd (ring line refl)
+done-without-fault drawing options files net out moments draws disks keeping Unbegun one read called goes counted ends ring calm = inr ends.0
+done-without-fault drawing options files net out moments draws disks keeping (Shut own) one read called goes counted ends ring calm = inr (shut-or-short disks out keeping (Shut own) one ends counted calm.disk calm.own)
+done-without-fault drawing options files net out moments draws disks keeping (Deaf own) one read called goes counted ends ring calm = absurd (calm.call (rose-once (net.faults net.before) (net.faults net.after) called))
+done-without-fault drawing options files net out moments draws disks keeping (Mute own) one read called goes counted ends ring calm = absurd (calm.write ends.1)
+done-without-fault drawing options files net out moments draws disks keeping (Serves own connections Served) one read called goes counted ends ring calm = done-or-fault out _ one calm.write ends.1
+done-without-fault drawing options files net out moments draws disks keeping (Serves own connections Stopped) one read called goes counted ends ring calm = done-or-fault out _ one calm.write ends.1
+done-without-fault drawing options files net out moments draws disks keeping (Serves own connections NotTaken) one read called goes counted ends ring calm = absurd (calm.call (rose-once (net.faults net.before) (net.faults net.after) called))
+done-without-fault drawing options files net out moments draws disks keeping (Serves own connections Journal) one read called goes counted ends ring calm =
+    absurd (calm.disk (broken-run drawing options options.journal disks moments draws keeping own connections goes counted))
+done-without-fault drawing options files net out moments draws disks keeping (Serves own connections Full) one read called goes counted ends ring calm = absurd (calm.room tt)
+done-without-fault drawing options files net out moments draws disks keeping (Serves own connections Memory) one read called goes counted ends ring calm = inr ends.1.0
+
+complete : {D F N O K : Type 0} (drawing : Drawing D) (options : ServeOptions) (files : Part FilesTold F) (net : Part (List NetCall) N) (out : Outside O) (moments : Moments) (draws : Draws D) (disks : Part NamesTold K) (keeping : Keeping) (course : Course D) (one : Status) (told : Option FilesTold)
+    → CountsFiles files course → CountsNet net course → GoesBy drawing options options.journal disks moments draws keeping course → CountsDisks disks keeping course → Ends options out keeping course one
     → IfSome told (λ told. (text : List ℕ) (ring : List RingKey) (line : ℕ) → IsFileOf told.files options.keys text → IsRingOf text ring → course ≡ Refused line → ⊥)
     → IfSome told (λ told. (text : List ℕ) (ring : List RingKey) → IsFileOf told.files options.keys text → IsRingOf text ring
-    → (HadFault files → ⊥) → (HadFault net → ⊥) → (HadFault out → ⊥) → (one ≡ status.Done) ⊎ (one ≡ status.Memory))
-complete options files net out course one None read called ends taken = tt
-complete options files net out course one (Some told) read called ends taken = λ text ring is its file call write.
-    done-without-fault options files net out course one read called ends (λ line. taken text ring line is its) file call write
+    → (HadFault files → ⊥) → (HadFault net → ⊥) → (HadFault out → ⊥) → (HadFault disks → ⊥) → ((at : ℕ) → keeping ≡ Foreign at → ⊥) → (IsFull course → ⊥) → (one ≡ status.Done) ⊎ (one ≡ status.Memory))
+complete drawing options files net out moments draws disks keeping course one None read called goes counted ends taken = tt
+complete drawing options files net out moments draws disks keeping course one (Some told) read called goes counted ends taken = λ text ring is its file call write disk own room.
+    done-without-fault drawing options files net out moments draws disks keeping course one read called goes counted ends (λ line. taken text ring line is its)
+    (record { file = file; call = call; write = write; disk = disk; own = own; room = room })
 
 -- ---- no more connections are asked for than there should be
 
@@ -290,18 +391,29 @@ few-accepts conns NotTaken connections calls ended noted =
     omega (arith, ap length noted.2, length-append noted.0 (Accept Failed ∷ []), noted-length connections noted.0 noted.1, ended.1)
 few-accepts conns Stopped [] calls ended noted = absurd ended
 few-accepts conns Stopped (last ∷ earlier) calls ended noted = omega (arith, noted-length (last ∷ earlier) calls noted, ended.2)
+few-accepts conns Journal [] calls ended noted = absurd ended
+few-accepts conns Journal (last ∷ earlier) calls ended noted = omega (arith, noted-length (last ∷ earlier) calls noted, ended.2)
+few-accepts conns Full [] calls ended noted = absurd ended
+few-accepts conns Full (last ∷ earlier) calls ended noted = omega (arith, noted-length (last ∷ earlier) calls noted, ended.2)
 few-accepts conns Memory [] calls ended noted = absurd ended
 few-accepts conns Memory (last ∷ earlier) calls ended noted = omega (arith, noted-length (last ∷ earlier) calls noted, ended.2)
 
-few-made : {D : Type 0} (step : D → ℕ × D) (options : ServeOptions) (moments : Moments) (draws : Draws D) (course : Course D) (made : List NetCall) → Makes options.port course made → ServesBy step options moments draws course
-    → length made ≤ 1 + options.conns
-few-made step options moments draws Unread made is serves = omega (arith, ap length is)
-few-made step options moments draws (Refused line) made is serves = omega (arith, ap length is)
-few-made step options moments draws Unbegun made is serves = omega (arith, ap length is)
-few-made step options moments draws (Deaf ring) made is serves = omega (arith, ap length is)
-few-made step options moments draws (Mute ring) made is serves = omega (arith, ap length is)
-few-made step options moments draws (Serves ring connections ending) made is serves =
-    omega (arith, ap length is.1, few-accepts options.conns ending connections is.0 serves.ended is.2)
+-- how many connections there were
+few-served : {D K : Type 0} (drawing : Drawing D) (options : ServeOptions) (journal : Option (List ℕ)) (disks : Part NamesTold K) (moments : Moments) (draws : Draws D) (keeping : Keeping) (ring : List RingKey) (connections : List (Connection D Registers)) (ending : Ending)
+    → GoesBy drawing options journal disks moments draws keeping (Serves ring connections ending) → EndsBy options.conns ending connections
+few-served drawing options None disks moments draws keeping ring connections ending goes = goes.1.ended
+few-served drawing options (Some name) disks moments draws keeping ring connections ending goes = goes.1.ended
+
+few-made : {D K : Type 0} (drawing : Drawing D) (options : ServeOptions) (disks : Part NamesTold K) (moments : Moments) (draws : Draws D) (keeping : Keeping) (course : Course D) (made : List NetCall) → Makes options.port course made
+    → GoesBy drawing options options.journal disks moments draws keeping course → length made ≤ 1 + options.conns
+few-made drawing options disks moments draws keeping Unread made is goes = omega (arith, ap length is)
+few-made drawing options disks moments draws keeping (Refused line) made is goes = omega (arith, ap length is)
+few-made drawing options disks moments draws keeping Unbegun made is goes = omega (arith, ap length is)
+few-made drawing options disks moments draws keeping (Shut ring) made is goes = omega (arith, ap length is)
+few-made drawing options disks moments draws keeping (Deaf ring) made is goes = omega (arith, ap length is)
+few-made drawing options disks moments draws keeping (Mute ring) made is goes = omega (arith, ap length is)
+few-made drawing options disks moments draws keeping (Serves ring connections ending) made is goes =
+    omega (arith, ap length is.1, few-accepts options.conns ending connections is.0 (few-served drawing options options.journal disks moments draws keeping ring connections ending goes) is.2)
 
 few-calls : (first last : Option (List NetCall)) (most : ℕ) (P : List NetCall → Type 0) → ((made : List NetCall) → P made → length made ≤ most)
     → IfSome last (λ after. IsSomeAnd first (λ before. (made : List NetCall) × (after ≡ before ++ made) × P made))
@@ -312,14 +424,15 @@ few-calls (Some first) (Some last) most P few made = omega (arith, ap length mad
 
 -- ---- none is asked for unless the first line is written
 
-first-made : {D O : Type 0} (options : ServeOptions) (out : Outside O) (course : Course D) (one : Status) (made : List NetCall) → Makes options.port course made → Ends options out course one
+first-made : {D O : Type 0} (options : ServeOptions) (out : Outside O) (keeping : Keeping) (course : Course D) (one : Status) (made : List NetCall) → Makes options.port course made → Ends options out keeping course one
     → 1 < length made → WritesFirst out (listening options.port)
-first-made options out Unread one made is ends more = absurd (omega (arith, more, ap length is))
-first-made options out (Refused line) one made is ends more = absurd (omega (arith, more, ap length is))
-first-made options out Unbegun one made is ends more = absurd (omega (arith, more, ap length is))
-first-made options out (Deaf ring) one made is ends more = absurd (omega (arith, more, ap length is))
-first-made options out (Mute ring) one made is ends more = absurd (omega (arith, more, ap length is))
-first-made options out (Serves ring connections ending) one made is ends more = ends.0
+first-made options out keeping Unread one made is ends more = absurd (omega (arith, more, ap length is))
+first-made options out keeping (Refused line) one made is ends more = absurd (omega (arith, more, ap length is))
+first-made options out keeping Unbegun one made is ends more = absurd (omega (arith, more, ap length is))
+first-made options out keeping (Shut ring) one made is ends more = absurd (omega (arith, more, ap length is))
+first-made options out keeping (Deaf ring) one made is ends more = absurd (omega (arith, more, ap length is))
+first-made options out keeping (Mute ring) one made is ends more = absurd (omega (arith, more, ap length is))
+first-made options out keeping (Serves ring connections ending) one made is ends more = ends.0
 
 first-called : (first last : Option (List NetCall)) (P : List NetCall → Type 0) (W : Type 0) → ((made : List NetCall) → P made → 1 < length made → W)
     → IfSome last (λ after. IsSomeAnd first (λ before. (made : List NetCall) × (after ≡ before ++ made) × P made))
@@ -330,21 +443,26 @@ first-called (Some first) (Some last) P W written made = λ more. written made.0
 
 -- ---- all of it
 
-pub run-of : {F N O D : Type 0} (step : D → ℕ × D) (options : ServeOptions) (files : Part FilesTold F) (net : Part (List NetCall) N) (out : Outside O) (moments : Moments) (draws : Draws D) (one : Status) (course : Course D)
-    → Reads options.keys files course → Calls options.port net course → ServesBy step options moments draws course → Ends options out course one
-    → ServeRun step options files net out moments draws one
-run-of step options files net out moments draws one course reads calls serves ends = record {
+pub run-of : {F N O D K : Type 0} (drawing : Drawing D) (options : ServeOptions) (files : Part FilesTold F) (net : Part (List NetCall) N) (out : Outside O) (moments : Moments) (draws : Draws D) (disks : Part NamesTold K) (one : Status) (course : Course D) (keeping : Keeping)
+    → Reads options.keys files course → Calls options.port net course → GoesBy drawing options options.journal disks moments draws keeping course → CountsDisks disks keeping course → Ends options out keeping course one
+    → (IsFull course → IfSome options.journal (λ name. IfTold disks (λ before after. HoldsSome name IsFilled after)))
+    → ServeRun drawing options files net out moments draws disks one
+run-of drawing options files net out moments draws disks one course keeping reads calls goes counts ends full = record {
   course = course;
+  keeping = keeping;
   reads = reads;
   calls = calls;
-  serves = serves;
+  serves = goes;
+  counts = counts;
   ends = ends;
-  few = few-calls (net.told net.before) (net.told net.after) (1 + options.conns) (Makes options.port course) (λ made is. few-made step options moments draws course made is serves) calls.made;
-  first_line = first-called (net.told net.before) (net.told net.after) (Makes options.port course) (WritesFirst out (listening options.port)) (λ made is. first-made options out course one made is ends) calls.made;
-  write_fault = write-fault options out course one ends;
-  not_listening = not-listening options net out course one calls.counted ends;
-  keys_refused = keys-refused options files out course one reads.counted ends;
-  completeness = complete options files net out course one (files.told files.before) reads.counted calls.counted ends reads.taken;
+  full = full;
+  few = few-calls (net.told net.before) (net.told net.after) (1 + options.conns) (Makes options.port course) (λ made is. few-made drawing options disks moments draws keeping course made is goes) calls.made;
+  first_line = first-called (net.told net.before) (net.told net.after) (Makes options.port course) (WritesFirst out (listening options.port)) (λ made is. first-made options out keeping course one made is ends) calls.made;
+  write_fault = write-fault options out keeping course one ends;
+  not_listening = not-listening options net out keeping course one calls.counted ends;
+  keys_refused = keys-refused options files out keeping course one reads.counted ends;
+  journal_fault = no-journal drawing options disks moments draws out keeping course one goes counts ends;
+  completeness = complete drawing options files net out moments draws disks keeping course one (files.told files.before) reads.counted calls.counted goes counts ends reads.taken;
 }
 
 -- ---- the file's name
@@ -361,29 +479,45 @@ asks-named before after name own is asked = subst (λ (some : List ℕ). IfSome 
 
 -- ---- the ways of a run
 
-pub run-with : {F N O D : Type 0} (step : D → ℕ × D) (options : ServeOptions) (files : Part FilesTold F) (net : Part (List NetCall) N) (out : Outside O) (moments : Moments) (draws : Draws D) (one : Status) (ring : List RingKey)
-    → OneReading → GivesBy (files.told files.before) options.keys (Ok ring) → IfTold files (AsksOnce options.keys) → FailsNever files → RunsWith step options ring net out moments draws one
-    → ServeRun step options files net out moments draws one
-run-with step options files net out moments draws one ring reading has asked never runs =
-    run-of step options files net out moments draws one runs.course (reads-with options.keys files ring runs.course reading runs.own has asked never) runs.calls runs.serves runs.ends
+pub run-with : {F N O D K : Type 0} (drawing : Drawing D) (options : ServeOptions) (files : Part FilesTold F) (net : Part (List NetCall) N) (out : Outside O) (moments : Moments) (draws : Draws D) (disks : Part NamesTold K) (one : Status) (ring : List RingKey)
+    → OneReading → GivesBy (files.told files.before) options.keys (Ok ring) → IfTold files (AsksOnce options.keys) → FailsNever files → RunsWith drawing options ring net out moments draws disks one
+    → ServeRun drawing options files net out moments draws disks one
+run-with drawing options files net out moments draws disks one ring reading has asked never runs =
+    run-of drawing options files net out moments draws disks one runs.course runs.keeping (reads-with options.keys files ring runs.course reading runs.own has asked never) runs.calls runs.goes runs.counts runs.ends runs.full
 
-pub run-unread : {F N O D : Type 0} (step : D → ℕ × D) (options : ServeOptions) (files : Part FilesTold F) (told : N → Option (List NetCall)) (faults : N → ℕ) (net : N) (out : Outside O) (given : Option (List ℕ)) (draw : D) (one : Status)
-    → IfTold files (AsksOnce options.keys) → FailsOnce files → Ends {D = D} {O = O} options out Unread one
-    → ServeRun step options files (record { told = told; faults = faults; before = net; after = net }) out (record { before = given; after = given }) (record { before = draw; after = draw }) one
-run-unread {F} {N} {O} {D} step options files told faults net out given draw one asked once ends =
-    run-of step options files (record { told = told; faults = faults; before = net; after = net }) out (record { before = given; after = given }) (record { before = draw; after = draw }) one Unread
-    (reads-unread {D = D} options.keys files asked once) (calls-unread {D = D} options.port told faults net) (refl, refl) ends
+-- before the ring is there nothing else is done
+pub idle-unread : {D K : Type 0} (drawing : Drawing D) (options : ServeOptions) (journal : Option (List ℕ)) (told : K → Option NamesTold) (faults : K → ℕ) (disks : K) (given : Option (List ℕ)) (draw : D)
+    → GoesBy drawing options journal (record { told = told; faults = faults; before = disks; after = disks }) (record { before = given; after = given }) (record { before = draw; after = draw }) Unopened Unread
+idle-unread drawing options None told faults disks given draw = (refl, (refl, refl), λ broken. broken)
+idle-unread drawing options (Some name) told faults disks given draw = (refl, (refl, refl))
 
-pub run-refused : {F N O D : Type 0} (step : D → ℕ × D) (options : ServeOptions) (files : Part FilesTold F) (told : N → Option (List NetCall)) (faults : N → ℕ) (net : N) (out : Outside O) (given : Option (List ℕ)) (draw : D) (one : Status) (line : ℕ)
-    → OneReading → HasText (files.told files.before) options.keys (λ text. IsRefusedAt text line) → IfTold files (AsksOnce options.keys) → FailsNever files → Ends {D = D} {O = O} options out (Refused line) one
-    → ServeRun step options files (record { told = told; faults = faults; before = net; after = net }) out (record { before = given; after = given }) (record { before = draw; after = draw }) one
-run-refused {F} {N} {O} {D} step options files told faults net out given draw one line reading has asked never ends =
-    run-of step options files (record { told = told; faults = faults; before = net; after = net }) out (record { before = given; after = given }) (record { before = draw; after = draw }) one (Refused line)
-    (reads-refused {D = D} options.keys files line reading has asked never) (calls-refused {D = D} options.port line told faults net) (refl, refl) ends
+pub idle-refused : {D K : Type 0} (drawing : Drawing D) (options : ServeOptions) (journal : Option (List ℕ)) (told : K → Option NamesTold) (faults : K → ℕ) (disks : K) (given : Option (List ℕ)) (draw : D) (line : ℕ)
+    → GoesBy drawing options journal (record { told = told; faults = faults; before = disks; after = disks }) (record { before = given; after = given }) (record { before = draw; after = draw }) Unopened (Refused line)
+idle-refused drawing options None told faults disks given draw line = (refl, (refl, refl), λ broken. broken)
+idle-refused drawing options (Some name) told faults disks given draw line = (refl, (refl, refl))
 
-pub run-unbegun : {F N O D : Type 0} (step : D → ℕ × D) (options : ServeOptions) (files : Part FilesTold F) (told : N → Option (List NetCall)) (faults : N → ℕ) (net : N) (out : Outside O) (given : Option (List ℕ)) (draw : D) (one : Status)
-    → IfTold files (AsksOnce options.keys) → FailsNever files → Ends {D = D} {O = O} options out Unbegun one
-    → ServeRun step options files (record { told = told; faults = faults; before = net; after = net }) out (record { before = given; after = given }) (record { before = draw; after = draw }) one
-run-unbegun {F} {N} {O} {D} step options files told faults net out given draw one asked never ends =
-    run-of step options files (record { told = told; faults = faults; before = net; after = net }) out (record { before = given; after = given }) (record { before = draw; after = draw }) one Unbegun
-    (reads-unbegun {D = D} options.keys files asked never) (calls-none {D = D} options.port told faults net) (refl, refl) ends
+pub idle-unbegun : {D K : Type 0} (drawing : Drawing D) (options : ServeOptions) (journal : Option (List ℕ)) (told : K → Option NamesTold) (faults : K → ℕ) (disks : K) (given : Option (List ℕ)) (draw : D)
+    → GoesBy drawing options journal (record { told = told; faults = faults; before = disks; after = disks }) (record { before = given; after = given }) (record { before = draw; after = draw }) Unopened Unbegun
+idle-unbegun drawing options None told faults disks given draw = (refl, (refl, refl), λ broken. broken)
+idle-unbegun drawing options (Some name) told faults disks given draw = (refl, (refl, refl))
+
+pub run-unread : {F N O D K : Type 0} (drawing : Drawing D) (options : ServeOptions) (files : Part FilesTold F) (told : N → Option (List NetCall)) (faults : N → ℕ) (net : N) (out : Outside O) (given : Option (List ℕ)) (draw : D) (tells : K → Option NamesTold) (counts : K → ℕ) (disks : K) (one : Status)
+    → IfTold files (AsksOnce options.keys) → FailsOnce files → Ends {D = D} {O = O} options out Unopened Unread one
+    → ServeRun drawing options files (record { told = told; faults = faults; before = net; after = net }) out (record { before = given; after = given }) (record { before = draw; after = draw }) (record { told = tells; faults = counts; before = disks; after = disks }) one
+run-unread {F} {N} {O} {D} {K} drawing options files told faults net out given draw tells counts disks one asked once ends =
+    run-of drawing options files (record { told = told; faults = faults; before = net; after = net }) out (record { before = given; after = given }) (record { before = draw; after = draw }) (record { told = tells; faults = counts; before = disks; after = disks }) one Unread Unopened
+    (reads-unread {D = D} options.keys files asked once) (calls-unread {D = D} options.port told faults net) (idle-unread drawing options options.journal tells counts disks given draw) refl ends (λ none. absurd none)
+
+pub run-refused : {F N O D K : Type 0} (drawing : Drawing D) (options : ServeOptions) (files : Part FilesTold F) (told : N → Option (List NetCall)) (faults : N → ℕ) (net : N) (out : Outside O) (given : Option (List ℕ)) (draw : D) (tells : K → Option NamesTold) (counts : K → ℕ) (disks : K) (one : Status) (line : ℕ)
+    → OneReading → HasText (files.told files.before) options.keys (λ text. IsRefusedAt text line) → IfTold files (AsksOnce options.keys) → FailsNever files → Ends {D = D} {O = O} options out Unopened (Refused line) one
+    → ServeRun drawing options files (record { told = told; faults = faults; before = net; after = net }) out (record { before = given; after = given }) (record { before = draw; after = draw }) (record { told = tells; faults = counts; before = disks; after = disks }) one
+run-refused {F} {N} {O} {D} {K} drawing options files told faults net out given draw tells counts disks one line reading has asked never ends =
+    run-of drawing options files (record { told = told; faults = faults; before = net; after = net }) out (record { before = given; after = given }) (record { before = draw; after = draw }) (record { told = tells; faults = counts; before = disks; after = disks }) one (Refused line) Unopened
+    (reads-refused {D = D} options.keys files line reading has asked never) (calls-refused {D = D} options.port line told faults net) (idle-refused drawing options options.journal tells counts disks given draw line) refl ends (λ none. absurd none)
+
+pub run-unbegun : {F N O D K : Type 0} (drawing : Drawing D) (options : ServeOptions) (files : Part FilesTold F) (told : N → Option (List NetCall)) (faults : N → ℕ) (net : N) (out : Outside O) (given : Option (List ℕ)) (draw : D) (tells : K → Option NamesTold) (counts : K → ℕ) (disks : K) (one : Status)
+    → IfTold files (AsksOnce options.keys) → FailsNever files → Ends {D = D} {O = O} options out Unopened Unbegun one
+    → ServeRun drawing options files (record { told = told; faults = faults; before = net; after = net }) out (record { before = given; after = given }) (record { before = draw; after = draw }) (record { told = tells; faults = counts; before = disks; after = disks }) one
+run-unbegun {F} {N} {O} {D} {K} drawing options files told faults net out given draw tells counts disks one asked never ends =
+    run-of drawing options files (record { told = told; faults = faults; before = net; after = net }) out (record { before = given; after = given }) (record { before = draw; after = draw }) (record { told = tells; faults = counts; before = disks; after = disks }) one Unbegun Unopened
+    (reads-unbegun {D = D} options.keys files asked never) (calls-none {D = D} options.port told faults net) (idle-unbegun drawing options options.journal tells counts disks given draw) refl ends (λ none. absurd none)

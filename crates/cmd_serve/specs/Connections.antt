@@ -13,7 +13,8 @@ use Rattle.server_node.specs.Writes.{CountsBy}
 use Rattle.server_node.specs.declared.conn.ConnEnd.{ConnEnd}
 use Rattle.server_node.specs.declared.conn.ConnEnd.TheVariants as ends
 use Rattle.cmd_serve.specs.declared.ending.Ending.{Ending}
-use Rattle.cmd_serve.specs.declared.ending.Ending.TheVariants.{Served, Stopped, NotTaken, Memory}
+use Rattle.server_core.specs.declared.desk.DeskFault.TheVariants as faults
+use Rattle.cmd_serve.specs.declared.ending.Ending.TheVariants.{Served, Stopped, NotTaken, Journal, Full, Memory}
 
 -- ---- between connections
 
@@ -82,13 +83,18 @@ abbrev pub AllGoOn : {S V : Type 0} → List (Connection S V) → Type 0
 AllGoOn [] = ⊤
 AllGoOn (last ∷ earlier) = AllGoOn earlier × GoesOn last.end
 
--- How they ended, of so many that there should be: all were served; the last one answered as many packets as there were left;
--- memory ran out in the last one; or no further one could be taken.
+-- How they ended, of so many that there should be: all were served; the last one answered as many packets as there were left; no
+-- further one could be taken; or the last one was cut off, as its event couldn't be done: a call of the journal's disk failed, the
+-- journal has no room for it, or memory ran out. A full journal leaves what want of memory leaves, so the connection ends as by that.
 abbrev pub EndsBy : {S V : Type 0} → ℕ → Ending → List (Connection S V) → Type 0
 EndsBy conns Served connections = AllGoOn connections × (length connections ≡ conns)
 EndsBy conns NotTaken connections = AllGoOn connections × (length connections < conns)
 EndsBy conns Stopped [] = ⊥
 EndsBy conns Stopped (last ∷ earlier) = AllGoOn earlier × (last.end ≡ ends.Stopped) × (length earlier < conns)
+EndsBy conns Journal [] = ⊥
+EndsBy conns Journal (last ∷ earlier) = AllGoOn earlier × (last.end ≡ ends.Journal faults.Disk) × (length earlier < conns)
+EndsBy conns Full [] = ⊥
+EndsBy conns Full (last ∷ earlier) = AllGoOn earlier × (last.end ≡ ends.Memory) × (length earlier < conns)
 EndsBy conns Memory [] = ⊥
 EndsBy conns Memory (last ∷ earlier) = AllGoOn earlier × (last.end ≡ ends.Memory) × (length earlier < conns)
 
@@ -113,6 +119,8 @@ abbrev pub AreNotedBy : {S V : Type 0} → Ending → List (Connection S V) → 
 AreNotedBy NotTaken connections calls = (front : List NetCall) × AreNoted connections front × (calls ≡ front ++ Accept Failed ∷ [])
 AreNotedBy Served connections calls = AreNoted connections calls
 AreNotedBy Stopped connections calls = AreNoted connections calls
+AreNotedBy Journal connections calls = AreNoted connections calls
+AreNotedBy Full connections calls = AreNoted connections calls
 AreNotedBy Memory connections calls = AreNoted connections calls
 
 -- that accept is one more fault of the net, and there is no other
@@ -120,4 +128,6 @@ abbrev pub CountsEnding : Ending → ℕ → ℕ → Type 0
 CountsEnding NotTaken before after = after ≡ one_more before
 CountsEnding Served before after = after ≡ before
 CountsEnding Stopped before after = after ≡ before
+CountsEnding Journal before after = after ≡ before
+CountsEnding Full before after = after ≡ before
 CountsEnding Memory before after = after ≡ before

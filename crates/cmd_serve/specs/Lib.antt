@@ -1,5 +1,7 @@
 pub mod Packets
 pub mod Connections
+pub mod Journals
 pub mod Lines
 pub mod Runs
 pub mod Inner
+pub mod Noted

@@ -1,6 +1,6 @@
 -- What a ring of keys says of packets, worked out: what a packet that comes to a server opens to, or why it doesn't open, and
 -- the packet that is sealed of what a session sends (core.telegram.org/mtproto/description, "Encrypted Message").
-use Rattle.std.specs.Prelude.{bytes_eq, ℕ, ◌-◌, ◌%◌, ◌==◌, ◌&&◌, nat_le, Bool, if◌then◌else◌, Option, Some, None, Result, Ok, Err, List, [], length}
+use Rattle.std.specs.Prelude.{bytes_eq, ℕ, ◌-◌, ◌%◌, ◌==◌, ◌&&◌, nat_le, Bool, if◌then◌else◌, Option, Some, None, Result, Ok, Err, List, length}
 use Rattle.auth_keys.specs.Rings.{entry_of}
 use Rattle.auth_keys.specs.declared.ring.RingKey.{RingKey}
 use Rattle.envelope.specs.declared.parts.Dir.{Dir}
@@ -10,10 +10,11 @@ use Rattle.envelope.specs.declared.refusal.Refusal.{Refusal}
 use Rattle.envelope.specs.declared.refusal.Refusal.TheVariants as refusals
 use Rattle.envelope.specs.Lock.{mt_lock}
 use Rattle.envelope.specs.Opening.{key_named, length_said, message_key_said, padding_left}
-use Rattle.envelope.specs.Packet.{Lock, packet_of}
+use Rattle.envelope.specs.Packet.{Lock}
 use Rattle.server_output.specs.Outs.{sealed_envelope}
 use Rattle.ring_rules.specs.Binding.{keys_of}
 use Rattle.ring_rules.specs.Opening.{is_good_at, opened, plain_in}
+use Rattle.ring_rules.specs.Sealing.{packet_under}
 use Rattle.server_rules.specs.Event.{Sent}
 use Rattle.server_node.specs.Trace.{Outside}
 
@@ -59,13 +60,8 @@ reading_by lock ring now packet = answer_of (opened lock ring now Up packet) (re
 
 -- ---- what is sealed
 
--- under a key of the ring, where there is one
-abbrev pub sealed_under : Lock → Option RingKey → Sent → List ℕ
-sealed_under lock None sent = []
-sealed_under lock (Some entry) sent = packet_of lock entry.key Down (sealed_envelope sent.envelope) sent.padding
-
 abbrev pub sealing_by : Lock → List RingKey → Sent → List ℕ
-sealing_by lock ring sent = sealed_under lock (entry_of sent.envelope.key ring) sent
+sealing_by lock ring sent = packet_under lock (entry_of sent.envelope.key ring) Down (sealed_envelope sent.envelope) sent.padding
 
 -- ---- all that a ring says
 

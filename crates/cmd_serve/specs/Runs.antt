@@ -1,7 +1,8 @@
 -- What a run of `serve` promises.
-use Rattle.std.specs.Prelude.{◌≡◌, ◌⊎◌, ℕ, Option, List, [], ◌∷◌, ◌++◌, ◌+◌, ◌<◌, ◌≤◌, length, IfSome, IsSome, IsSomeAnd, ⊤}
+use Rattle.std.specs.Prelude.{◌≡◌, ◌⊎◌, ℕ, Option, None, Some, List, [], ◌∷◌, ◌++◌, ◌+◌, ◌<◌, ◌≤◌, length, IfSome, IsSome, IsSomeAnd, ⊤}
 use Rattle.auth_keys.specs.KeyFile.{IsRingOf}
 use Rattle.auth_keys.specs.declared.ring.RingKey.{RingKey}
+use Rattle.disks.specs.Named.{NamesTold}
 use Rattle.commands.specs.declared.command.ServeOptions.{ServeOptions}
 use Rattle.key_files.specs.Files.{AsksOnce, HasText, IsFileOf, IsRefusedAt, not_read, refused_at}
 use Rattle.mt_edge.specs.Faults.{one_more}
@@ -16,10 +17,11 @@ use Rattle.statuses.specs.Outside.{HadFault, IsUntouched, Outside, Part, Tells, 
 use Rattle.statuses.specs.declared.status.Status.{Status}
 use Rattle.statuses.specs.declared.status.Status.TheVariants as status
 use Rattle.cmd_serve.specs.Connections.{AreConnections, AreNotedBy, Between, Connection, CountsEnding, EndsBy, behind_all}
-use Rattle.cmd_serve.specs.Lines.{last_line, listening, not_listening}
+use Rattle.cmd_serve.specs.Journals.{AsksClock, AsksFor, Drawing, FoundBy, HoldsSome, IsFilled, IsOpen, IsShut, Keeping, LeavesBy, SeedsBy, StartsBy, Unopened, Faulty, Foreign, Cut, New, Old}
+use Rattle.cmd_serve.specs.Lines.{journal_fault, last_line, listening, not_listening}
 use Rattle.cmd_serve.specs.Packets.{outside_of}
 use Rattle.cmd_serve.specs.declared.ending.Ending.{Ending}
-use Rattle.cmd_serve.specs.declared.ending.Ending.TheVariants.{Served, Stopped, NotTaken, Memory}
+use Rattle.cmd_serve.specs.declared.ending.Ending.TheVariants.{Served, Stopped, NotTaken, Journal, Full, Memory}
 
 -- ---- the outside
 
@@ -47,6 +49,8 @@ pub data Course (D : Type 0) : Type 0 where
   Refused : (line : ℕ) → Course D
   -- memory runs out before the net is asked for anything
   Unbegun : Course D
+  -- the text is this ring; there is to be a journal, and no server comes of its file
+  Shut : (ring : List RingKey) → Course D
   -- the text is this ring; connections can't be taken
   Deaf : (ring : List RingKey) → Course D
   -- they can, but the line that says so isn't written
@@ -61,6 +65,7 @@ abbrev pub HasKeys : {D : Type 0} → Option FilesTold → List ℕ → Course D
 HasKeys told name Unread = ⊤
 HasKeys told name (Refused line) = HasText told name (λ text. IsRefusedAt text line)
 HasKeys told name Unbegun = ⊤
+HasKeys told name (Shut ring) = HasText told name (λ text. IsRingOf text ring)
 HasKeys told name (Deaf ring) = HasText told name (λ text. IsRingOf text ring)
 HasKeys told name (Mute ring) = HasText told name (λ text. IsRingOf text ring)
 HasKeys told name (Serves ring connections ending) = HasText told name (λ text. IsRingOf text ring)
@@ -70,6 +75,7 @@ abbrev pub CountsFiles : {D F : Type 0} → Part FilesTold F → Course D → Ty
 CountsFiles files Unread = FailsOnce files
 CountsFiles files (Refused line) = FailsNever files
 CountsFiles files Unbegun = FailsNever files
+CountsFiles files (Shut ring) = FailsNever files
 CountsFiles files (Deaf ring) = FailsNever files
 CountsFiles files (Mute ring) = FailsNever files
 CountsFiles files (Serves ring connections ending) = FailsNever files
@@ -92,6 +98,7 @@ abbrev pub Makes : {D : Type 0} → ℕ → Course D → List NetCall → Type 0
 Makes port Unread made = made ≡ []
 Makes port (Refused line) made = made ≡ []
 Makes port Unbegun made = made ≡ []
+Makes port (Shut ring) made = made ≡ []
 Makes port (Deaf ring) made = made ≡ Listen port NotReady ∷ []
 Makes port (Mute ring) made = made ≡ Listen port Ready ∷ []
 Makes port (Serves ring connections ending) made = (accepts : List NetCall) × (made ≡ Listen port Ready ∷ accepts) × AreNotedBy ending connections accepts
@@ -101,6 +108,7 @@ abbrev pub CountsNet : {D N : Type 0} → Part (List NetCall) N → Course D →
 CountsNet net Unread = IsUntouched net
 CountsNet net (Refused line) = IsUntouched net
 CountsNet net Unbegun = IsUntouched net
+CountsNet net (Shut ring) = IsUntouched net
 CountsNet net (Deaf ring) = FailsOnce net
 CountsNet net (Mute ring) = FailsNever net
 CountsNet net (Serves ring connections ending) = CountsEnding ending (net.faults net.before) (net.faults net.after)
@@ -140,14 +148,119 @@ abbrev pub first_of : {D : Type 0} → ServeOptions → Moments → D → Betwee
 first_of options moments draw =
     record { server = fresh_server; draw = draw; service = registers.fresh; given = moments.before; left = options.stop_after }
 
+-- without a journal
 abbrev pub ServesBy : {D : Type 0} → (D → ℕ × D) → ServeOptions → Moments → Draws D → Course D → Type 0
 ServesBy step options moments draws Unread = IsUnasked moments draws
 ServesBy step options moments draws (Refused line) = IsUnasked moments draws
 ServesBy step options moments draws Unbegun = IsUnasked moments draws
+ServesBy step options moments draws (Shut ring) = ⊥
 ServesBy step options moments draws (Deaf ring) = IsUnasked moments draws
 ServesBy step options moments draws (Mute ring) = IsUnasked moments draws
 ServesBy step options moments draws (Serves ring connections ending) =
     IsServed (rules_of step registers.step (outside_of ring)) (first_of options moments draws.before) options.conns moments.after draws.after connections ending
+
+-- ---- the journal
+
+-- The file of this name is opened, once, with this ring, before the net is asked for anything; what becomes of it, and what the
+-- clock and the draw are asked for in that.
+pub record Opens {D K : Type 0} (drawing : Drawing D) (ring : List RingKey) (name : List ℕ) (disks : Part NamesTold K) (given given_then : Option (List ℕ)) (draws : Draws D) (keeping : Keeping) : Type 0 where
+  pub asked : IfTold disks (AsksFor name keeping)
+  pub found : IfTold disks (FoundBy drawing ring name keeping)
+  pub clock : AsksClock keeping given given_then
+  pub seeded : SeedsBy drawing keeping draws.before draws.after
+
+-- and no server comes of it
+pub record OpensNone {D K : Type 0} (drawing : Drawing D) (ring : List RingKey) (name : List ℕ) (disks : Part NamesTold K) (moments : Moments) (draws : Draws D) (keeping : Keeping) : Type 0 where
+  pub shut : IsShut keeping
+  pub opens : Opens drawing ring name disks moments.before moments.after draws keeping
+
+-- These connections begin with its server, a fresh service, and as many packets to answer as the options say. Where no fault of a
+-- disk was counted the file spells at the return what stands behind them.
+pub record Keeps {D K : Type 0} (drawing : Drawing D) (ring : List RingKey) (options : ServeOptions) (name : List ℕ) (disks : Part NamesTold K) (moments : Moments) (draws : Draws D) (keeping : Keeping) (connections : List (Connection D Registers)) : Type 0 where
+  pub opened : IsOpen keeping
+  pub first : Between D Registers
+  pub opens : Opens drawing ring name disks moments.before first.given draws keeping
+  pub starts : StartsBy drawing ring keeping draws.before first.server first.draw
+  pub service : first.service ≡ registers.fresh
+  pub left : first.left ≡ options.stop_after
+  pub leaves : (HadFault disks → ⊥) → IfTold disks (λ before after. LeavesBy drawing ring name keeping (behind_all first connections).server (behind_all first connections).draw after)
+
+-- with a journal of this name
+abbrev pub JournalsBy : {D K : Type 0} → Drawing D → ServeOptions → List ℕ → Part NamesTold K → Moments → Draws D → Keeping → Course D → Type 0
+JournalsBy drawing options name disks moments draws keeping Unread = (keeping ≡ Unopened) × IsUnasked moments draws
+JournalsBy drawing options name disks moments draws keeping (Refused line) = (keeping ≡ Unopened) × IsUnasked moments draws
+JournalsBy drawing options name disks moments draws keeping Unbegun = (keeping ≡ Unopened) × IsUnasked moments draws
+JournalsBy drawing options name disks moments draws keeping (Shut ring) = OpensNone drawing ring name disks moments draws keeping
+JournalsBy drawing options name disks moments draws keeping (Deaf ring) =
+    (keeps : Keeps drawing ring options name disks moments draws keeping []) × (moments.after ≡ keeps.first.given)
+JournalsBy drawing options name disks moments draws keeping (Mute ring) =
+    (keeps : Keeps drawing ring options name disks moments draws keeping []) × (moments.after ≡ keeps.first.given)
+JournalsBy drawing options name disks moments draws keeping (Serves ring connections ending) =
+    (keeps : Keeps drawing ring options name disks moments draws keeping connections)
+    × IsServed (rules_of drawing.step registers.step (outside_of ring)) keeps.first options.conns moments.after (behind_all keeps.first connections).draw connections ending
+
+-- its connections end by the journal: a call of its disk failed, or it has no room
+abbrev pub IsBroken : {D : Type 0} → Course D → Type 0
+IsBroken Unread = ⊥
+IsBroken (Refused line) = ⊥
+IsBroken Unbegun = ⊥
+IsBroken (Shut ring) = ⊥
+IsBroken (Deaf ring) = ⊥
+IsBroken (Mute ring) = ⊥
+IsBroken (Serves ring connections Served) = ⊥
+IsBroken (Serves ring connections Stopped) = ⊥
+IsBroken (Serves ring connections NotTaken) = ⊥
+IsBroken (Serves ring connections Journal) = ⊤
+IsBroken (Serves ring connections Full) = ⊤
+IsBroken (Serves ring connections Memory) = ⊥
+
+-- by what the options say
+abbrev pub GoesBy : {D K : Type 0} → Drawing D → ServeOptions → Option (List ℕ) → Part NamesTold K → Moments → Draws D → Keeping → Course D → Type 0
+GoesBy drawing options None disks moments draws keeping course =
+    (keeping ≡ Unopened) × ServesBy drawing.step options moments draws course × (IsBroken course → ⊥)
+GoesBy drawing options (Some name) disks moments draws keeping course = JournalsBy drawing options name disks moments draws keeping course
+
+-- a call of the journal's disk failed exactly where the connections ended by that
+abbrev pub CountsBy : {K : Type 0} → Part NamesTold K → Ending → Type 0
+CountsBy disks Journal = FailsOnce disks
+CountsBy disks Served = FailsNever disks
+CountsBy disks Stopped = FailsNever disks
+CountsBy disks NotTaken = FailsNever disks
+CountsBy disks Full = FailsNever disks
+CountsBy disks Memory = FailsNever disks
+
+abbrev pub CountsKept : {D K : Type 0} → Part NamesTold K → Course D → Type 0
+CountsKept disks Unread = ⊥
+CountsKept disks (Refused line) = ⊥
+CountsKept disks Unbegun = ⊥
+CountsKept disks (Shut ring) = ⊥
+CountsKept disks (Deaf ring) = FailsNever disks
+CountsKept disks (Mute ring) = FailsNever disks
+CountsKept disks (Serves ring connections ending) = CountsBy disks ending
+
+-- where no file is opened nothing is done to them
+abbrev pub CountsDisks : {D K : Type 0} → Part NamesTold K → Keeping → Course D → Type 0
+CountsDisks disks Unopened course = IsUntouched disks
+CountsDisks disks Faulty course = FailsOnce disks
+CountsDisks disks (Foreign at) course = FailsNever disks
+CountsDisks disks Cut course = FailsNever disks
+CountsDisks disks (New seed) course = CountsKept disks course
+CountsDisks disks (Old seed entries now) course = CountsKept disks course
+
+-- the connections ended as the journal had no room
+abbrev pub IsFull : {D : Type 0} → Course D → Type 0
+IsFull Unread = ⊥
+IsFull (Refused line) = ⊥
+IsFull Unbegun = ⊥
+IsFull (Shut ring) = ⊥
+IsFull (Deaf ring) = ⊥
+IsFull (Mute ring) = ⊥
+IsFull (Serves ring connections Served) = ⊥
+IsFull (Serves ring connections Stopped) = ⊥
+IsFull (Serves ring connections NotTaken) = ⊥
+IsFull (Serves ring connections Journal) = ⊥
+IsFull (Serves ring connections Full) = ⊤
+IsFull (Serves ring connections Memory) = ⊥
 
 -- ---- the status, and what is written
 
@@ -161,29 +274,45 @@ abbrev pub EndsServing : {O : Type 0} → ServeOptions → Outside O → Ending 
 EndsServing options out Served one = Tells out status.Done (listening options.port ++ last_line options.conns Served) one
 EndsServing options out Stopped one = Tells out status.Done (listening options.port ++ last_line options.conns Stopped) one
 EndsServing options out NotTaken one = Tells out status.NotListening (listening options.port ++ not_listening) one
+EndsServing options out Journal one = Tells out status.JournalFault (listening options.port ++ last_line options.conns Journal) one
+EndsServing options out Full one = Tells out status.JournalFault (listening options.port ++ last_line options.conns Full) one
 EndsServing options out Memory one = (one ≡ status.Memory) × Writes out (listening options.port)
+
+-- where no server comes of the journal's file
+abbrev pub EndsShut : {O : Type 0} → Outside O → Keeping → Status → Type 0
+EndsShut out Unopened one = ⊥
+EndsShut out Faulty one = Tells out status.JournalFault journal_fault one
+EndsShut out (Foreign at) one = Tells out status.JournalFault journal_fault one
+EndsShut out Cut one = (one ≡ status.Memory) × IsUntouched out
+EndsShut out (New seed) one = ⊥
+EndsShut out (Old seed entries now) one = ⊥
 
 -- Each status with the course that is its cause: it comes there and nowhere else. Where a write to the output fails, it is the
 -- write fault in place of another one, and a front of what was due is written; where connections are served, the first line of
 -- it is whole.
-abbrev pub Ends : {D O : Type 0} → ServeOptions → Outside O → Course D → Status → Type 0
-Ends options out Unread one = Tells out status.KeysRefused not_read one
-Ends options out (Refused line) one = Tells out status.KeysRefused (refused_at line) one
-Ends options out Unbegun one = (one ≡ status.Memory) × IsUntouched out
-Ends options out (Deaf ring) one = Tells out status.NotListening not_listening one
-Ends options out (Mute ring) one = (one ≡ status.WriteFault) × HadFault out × WritesFront out (listening options.port)
-Ends options out (Serves ring connections ending) one = WritesFirst out (listening options.port) × EndsServing options out ending one
+abbrev pub Ends : {D O : Type 0} → ServeOptions → Outside O → Keeping → Course D → Status → Type 0
+Ends options out keeping Unread one = Tells out status.KeysRefused not_read one
+Ends options out keeping (Refused line) one = Tells out status.KeysRefused (refused_at line) one
+Ends options out keeping Unbegun one = (one ≡ status.Memory) × IsUntouched out
+Ends options out keeping (Shut ring) one = EndsShut out keeping one
+Ends options out keeping (Deaf ring) one = Tells out status.NotListening not_listening one
+Ends options out keeping (Mute ring) one = (one ≡ status.WriteFault) × HadFault out × WritesFront out (listening options.port)
+Ends options out keeping (Serves ring connections ending) one = WritesFirst out (listening options.port) × EndsServing options out ending one
 
 -- ---- a run
 
-pub record ServeRun {F N O D : Type 0} (step : D → ℕ × D) (options : ServeOptions) (files : Part FilesTold F) (net : Part (List NetCall) N) (out : Outside O) (moments : Moments) (draws : Draws D) (result : Status) : Type 0 where
-  -- how it went
+pub record ServeRun {F N O D K : Type 0} (drawing : Drawing D) (options : ServeOptions) (files : Part FilesTold F) (net : Part (List NetCall) N) (out : Outside O) (moments : Moments) (draws : Draws D) (disks : Part NamesTold K) (result : Status) : Type 0 where
+  -- how it went, and what became of the journal's file
   pub course : Course D
+  pub keeping : Keeping
   pub reads : Reads options.keys files course
   pub calls : Calls options.port net course
-  pub serves : ServesBy step options moments draws course
+  pub serves : GoesBy drawing options options.journal disks moments draws keeping course
+  pub counts : CountsDisks disks keeping course
   -- the status and what is written
-  pub ends : Ends options out course result
+  pub ends : Ends options out keeping course result
+  -- The connections end by a full journal only where its file leaves no room, at the return, for what one event may add to it.
+  pub full : IsFull course → IfSome options.journal (λ name. IfTold disks (λ before after. HoldsSome name IsFilled after))
   -- No more connections are asked for than there should be.
   pub few : IfTold net (λ before after. length after ≤ length before + (1 + options.conns))
   -- None is asked for unless the first line is written: where that is torn, or isn't there, the net was called once at most.
@@ -192,6 +321,9 @@ pub record ServeRun {F N O D : Type 0} (step : D → ℕ × D) (options : ServeO
   pub write_fault : result ≡ status.WriteFault → HadFault out
   pub not_listening : result ≡ status.NotListening → HadFault net
   pub keys_refused : result ≡ status.KeysRefused → HadFault files ⊎ ((line : ℕ) × (course ≡ Refused line))
-  -- Nothing but a fault, or want of memory, keeps a run with a lawful key file from being done.
+  pub journal_fault : result ≡ status.JournalFault → HadFault disks ⊎ ((at : ℕ) × (keeping ≡ Foreign at)) ⊎ IsFull course
+  -- Nothing but a fault, a file that is neither empty nor a journal, a full one, or want of memory, keeps a run with a lawful key
+  -- file from being done.
   pub completeness : IfSome (files.told files.before) (λ told. (text : List ℕ) (ring : List RingKey) → IsFileOf told.files options.keys text → IsRingOf text ring
-      → (HadFault files → ⊥) → (HadFault net → ⊥) → (HadFault out → ⊥) → (result ≡ status.Done) ⊎ (result ≡ status.Memory))
+      → (HadFault files → ⊥) → (HadFault net → ⊥) → (HadFault out → ⊥) → (HadFault disks → ⊥) → ((at : ℕ) → keeping ≡ Foreign at → ⊥) → (IsFull course → ⊥)
+      → (result ≡ status.Done) ⊎ (result ≡ status.Memory))

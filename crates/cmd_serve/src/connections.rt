@@ -2,10 +2,9 @@
 
 ghost use Rattle.std.specs.Prelude.{◌≡◌, ◌≢◌, IsSome, Some};
 ghost use Rattle.server_core.specs.declared.desk.DeskFault.{DeskFault};
-ghost use Rattle.server_core.specs.declared.desk.DeskFault.TheVariants as faults;
 ghost use Rattle.server_node.specs.Trace.{IsOutside, Outside, rules_of};
 ghost use Rattle.cmd_serve.specs.Connections.{Between, CountsEnding};
-ghost use Rattle.cmd_serve.specs.Inner.{ServedAll, StandsAt};
+ghost use Rattle.cmd_serve.specs.Inner.{CountsDeskBy, IsServeFault, ServedAll, StandsAt};
 
 use crate::connection::serve_next;
 use crate::ending::{Ending, ending_of};
@@ -25,12 +24,14 @@ pub(crate) fn serve_all<N: Net, K: Desk, V: Service, C: Clock>(
     left: &mut Option<u64>,
 ) -> Ending
     requires some { left.old ≢ Some 0 }
-    requires no_journal { (fault : DeskFault) → K.MayAnswer fault → fault ≡ faults.Memory }
+    requires faults { (fault : DeskFault) → K.MayAnswer fault → IsServeFault fault }
     ensures served { (outside : Outside) (first : Between K.D V) → IsOutside K.S.lock (K.keys desk.old) outside
         → StandsAt (K.StandsFor desk.old) (K.drawn desk.old) service.old (C.given clock.old) left.old first
         → ServedAll (rules_of K.D.step V.step outside) first conns (N.calls net.old) result
         (record { desk = K.StandsFor desk.new; drawn = K.drawn desk.new; service = service.new; given = C.given clock.new; left = left.new; calls = N.calls net.new }) }
     ensures counted { CountsEnding result (N.faults net.old) (N.faults net.new) }
+    ensures desk_counted { CountsDeskBy result (K.fault_count desk.old) (K.fault_count desk.new) }
+    ensures same_keys { K.keys desk.new ≡ K.keys desk.old }
     ensures first_fault { IsSome (N.calls net.old) → N.faults net.old ≡ 0 → IsSome (N.calls net.new) }
     ensures same_reference { K.draw_name desk.new ≡ K.draw_name desk.old }
 {

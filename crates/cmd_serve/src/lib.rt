@@ -6,8 +6,12 @@
 mod connection;
 mod connections;
 mod ending;
+mod journal;
+mod journaled;
+mod keeping;
 pub mod laws;
 mod lines;
 mod running;
+mod serving;
 
 pub use running::run_serve;

@@ -11,18 +11,30 @@ use octets::{Memory, Octets};
 use statuses::Status;
 use std::alloc::Global;
 
-/// The line that says on which port connections are taken.
-pub(crate) fn listening_line(alloc: Global, port: u16) -> Result<Octets, Memory>
-    ensures { IfOk result (λ text. text ≡ listening port) }
-{
-    numbered(alloc, b"listening ", u32::from(port))
+/// What is written where a journal can't be opened or kept.
+pub(crate) const JOURNAL_FAULT: &[u8; 14] = b"journal fault\n";
+
+/// The first line of a run, and the last one where all connections are served.
+#[derive(Drop)]
+pub(crate) struct Lines {
+    /// On which port connections are taken.
+    pub(crate) first: Octets,
+    /// How many connections were served.
+    pub(crate) last: Octets,
 }
 
-/// The line that says how many connections were served.
-pub(crate) fn served_line(alloc: Global, conns: u32) -> Result<Octets, Memory>
-    ensures { IfOk result (λ text. text ≡ last_line conns Served) }
+/// The lines of a run.
+///
+/// # Errors
+///
+/// `Memory`.
+pub(crate) fn lines_of(alloc: Global, port: u16, conns: u32) -> Result<Lines, Memory>
+    ensures first { IfOk result (λ lines. lines.first ≡ listening port) }
+    ensures last { IfOk result (λ lines. lines.last ≡ last_line conns Served) }
 {
-    numbered(alloc, b"served ", conns)
+    let first = numbered(alloc, b"listening ", u32::from(port))?;
+    let last = numbered(alloc, b"served ", conns)?;
+    Ok(Lines { first, last })
 }
 
 /// A number with words in front of it, as a line.

@@ -10,6 +10,7 @@ use Rattle.sim_server.specs.Settings.{IsOf, Sealing}
 use Rattle.regs_service.specs.Registers as registers
 use Rattle.ring_rules.specs.Binding.{keys_of}
 use Rattle.ring_rules.specs.Opening.{opened}
+use Rattle.ring_rules.specs.Sealing.{packet_under}
 use Rattle.server_dispatch.specs.Rings.{AreOf}
 use Rattle.sched_text.specs.declared.event.Event.{Event}
 use Rattle.world_rules.specs.Load.{load}
@@ -22,7 +23,7 @@ use Rattle.sim_world.specs.Told.{Tells}
 use Rattle.sim_world.specs.Worlds.{Stands, world_setting}
 use Rattle.cmd_sim.specs.KeysOfSim.{sim_ring}
 use Rattle.cmd_sim.specs.Words.{counted_step}
-use Rattle.cmd_sim.specs.Worlds.{KeptWorld, Registers, StandsFor, packet_under, sim_sealing, sim_setting}
+use Rattle.cmd_sim.specs.Worlds.{KeptWorld, Registers, StandsFor, sim_sealing, sim_setting}
 
 -- the setting over some ring
 abbrev pub setting_at : List RingKey → Setting ℕ Registers
@@ -39,7 +40,7 @@ pub setting-is-of : ((ring : List RingKey) (now : ℕ) (dir : Dir) (packet : Lis
 unfolding sim_setting sim_sealing
 setting-is-of opens keys = record {
   seal = record {
-    sealed = λ dir envelope padding entry found. ap (λ (key : Option RingKey). packet_under key dir envelope padding) found;
+    sealed = λ dir envelope padding entry found. ap (λ (key : Option RingKey). packet_under mt_lock key dir envelope padding) found;
     opens = λ now dir bytes envelope. opens sim_ring now dir bytes envelope;
   };
   rings = keys sim_ring;

@@ -1,17 +1,15 @@
 -- The world of `sim`: the rules of servers and clients, with the protocol's seal, the keys of `sim`, the register service
 -- and the words that are counted.
-use Rattle.std.specs.Prelude.{ℕ, Option, Some, None, List, []}
+use Rattle.std.specs.Prelude.{ℕ, Option, List}
 use Rattle.auth_keys.specs.declared.ring.RingKey.{RingKey}
 use Rattle.auth_keys.specs.Rings.{entry_of, key_in}
 use Rattle.client_core.specs.Flushed.{binding_under}
-use Rattle.envelope.specs.declared.parts.Dir.{Dir}
-use Rattle.envelope.specs.declared.parts.Envelope.{Envelope}
 use Rattle.envelope.specs.Lock.{mt_lock}
-use Rattle.envelope.specs.Packet.{packet_of}
 use Rattle.sim_server.specs.Settings.{Sealing}
 use Rattle.regs_service.specs.Registers as registers
 use Rattle.ring_rules.specs.Binding.{keys_of}
 use Rattle.ring_rules.specs.Opening.{opened}
+use Rattle.ring_rules.specs.Sealing.{packet_under}
 use Rattle.sched_text.specs.declared.schedule.Placed.{Placed}
 use Rattle.world_rules.specs.Run.{events_of, first_refused, run_of}
 use Rattle.world_rules.specs.Refusals.{Refusal}
@@ -26,16 +24,11 @@ use Rattle.cmd_sim.specs.Words.{counted_step}
 abbrev pub Registers : Type 0
 Registers = registers.Sums
 
--- a packet under a key of a ring, where there is one
-abbrev pub packet_under : Option RingKey → Dir → Envelope → List ℕ → List ℕ
-packet_under None dir envelope padding = []
-packet_under (Some entry) dir envelope padding = packet_of mt_lock entry.key dir envelope padding
-
 -- what the protocol's seal does under the keys of `sim`
 unfoldable pub sim_sealing : Sealing
 sim_sealing =
     record {
-      sealed = λ dir envelope. packet_under (entry_of envelope.key sim_ring) dir envelope;
+      sealed = λ dir envelope. packet_under mt_lock (entry_of envelope.key sim_ring) dir envelope;
       opens = opened mt_lock sim_ring;
       binding_message = λ perm. binding_under (key_in (entry_of perm sim_ring));
       rings = keys_of sim_ring;

@@ -245,8 +245,8 @@ one_page words a b p q =
 
 -- ---- options
 
-abbrev serving : List ℕ → ℕ → ℕ → Option ℕ → ServeOptions
-serving keys port conns stop_after = record { keys = keys; port = port; conns = conns; stop_after = stop_after }
+abbrev serving : List ℕ → ℕ → ℕ → Option ℕ → Option (List ℕ) → ServeOptions
+serving keys port conns stop_after journal = record { keys = keys; port = port; conns = conns; stop_after = stop_after; journal = journal }
 
 one_serving : (rows : List Row) (a b : ServeOptions) → SaysServe rows a → SaysServe rows b → a ≡ b
 one_serving rows a b p q =
@@ -254,10 +254,11 @@ one_serving rows a b p q =
     let port = one_number _ _ 65535 rows _ _ (omega arith) p.port q.port in
     let conns = one_number _ _ 1000 rows _ _ (omega arith) p.conns q.conns in
     let stop_after = may_one_number _ _ 1000000000 rows _ _ (omega arith) p.stop_after q.stop_after in
-    ap (λ k. serving k a.port a.conns a.stop_after) keys
-    ∙ (ap (λ n. serving b.keys n a.conns a.stop_after) port
-    ∙ (ap (λ n. serving b.keys b.port n a.stop_after) conns
-    ∙ ap (λ o. serving b.keys b.port b.conns o) stop_after))
+    ap (λ k. serving k a.port a.conns a.stop_after a.journal) keys
+    ∙ (ap (λ n. serving b.keys n a.conns a.stop_after a.journal) port
+    ∙ (ap (λ n. serving b.keys b.port n a.stop_after a.journal) conns
+    ∙ (ap (λ o. serving b.keys b.port b.conns o a.journal) stop_after
+    ∙ ap (λ o. serving b.keys b.port b.conns b.stop_after o) (sym p.journal ∙ q.journal))))
 
 abbrev calling : List ℕ → ℕ → ℕ → Form → Bool → ℕ → Option ℕ → CallOptions
 calling keys key port form obfuscate retries perm =

@@ -5,7 +5,7 @@ use Rattle.std.specs.List.{list_any}
 use Rattle.clap.specs.Words.{App, Row}
 use Rattle.transport.specs.declared.form.Form.TheVariants.{Full}
 use Rattle.commands.specs.Simple.{sim, load, serve, call, pair, check, relay, faults, rows}
-use Rattle.commands.specs.Values.{HasText, HasFlag, HasNumber, MayHaveNumber, HasId, MayHaveId, HasForm, HasSecret}
+use Rattle.commands.specs.Values.{HasText, MayHaveText, HasFlag, HasNumber, MayHaveNumber, HasId, MayHaveId, HasForm, HasSecret}
 use Rattle.commands.specs.declared.command.Command.{Command}
 use Rattle.commands.specs.declared.command.Command.TheVariants as command
 use Rattle.commands.specs.declared.command.ServeOptions.{ServeOptions}
@@ -47,6 +47,7 @@ pub record SaysServe (rows : List Row) (options : ServeOptions) : Type 0 where
   pub port : HasNumber (codes "port") 1 65535 rows options.port
   pub conns : HasNumber (codes "conns") 1 1000 rows options.conns
   pub stop_after : MayHaveNumber (codes "stop-after") 1 1000000000 rows options.stop_after
+  pub journal : MayHaveText (codes "journal") rows options.journal
 
 -- what `call` was told: full frames are never obfuscated
 pub record SaysCall (rows : List Row) (options : CallOptions) : Type 0 where

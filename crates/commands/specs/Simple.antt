@@ -42,7 +42,7 @@ load = simple (codes "load") (operand (codes "calls") ∷ [])
 
 unfoldable pub serve : App
 serve = simple (codes "serve")
-    (needed (codes "keys") ∷ needed (codes "port") ∷ needed (codes "conns") ∷ option (codes "stop-after") ∷ [])
+    (needed (codes "keys") ∷ needed (codes "port") ∷ needed (codes "conns") ∷ option (codes "stop-after") ∷ option (codes "journal") ∷ [])
 
 unfoldable pub call : App
 call = simple (codes "call")

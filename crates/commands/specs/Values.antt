@@ -14,6 +14,10 @@ text_of name rows = first_of name rows
 abbrev pub HasText : List ℕ → List Row → List ℕ → Type 0
 HasText name rows text = text_of name rows ≡ Some text
 
+-- the argument is left out, or its value is this text
+abbrev pub MayHaveText : List ℕ → List Row → Option (List ℕ) → Type 0
+MayHaveText name rows text = text_of name rows ≡ text
+
 -- the flag is there: `clap` gives it the text `true` then, and else `false`
 abbrev pub HasFlag : List ℕ → List Row → Bool → Type 0
 HasFlag name rows there = IsTrue there ↔ (text_of name rows ≡ Some (codes "true"))

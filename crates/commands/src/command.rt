@@ -79,6 +79,8 @@ pub struct ServeOptions<'a> {
     pub conns: u32,
     /// `--stop-after`: after how many packets to stop, from 1 to 1,000,000,000.
     pub stop_after: Option<u64>,
+    /// `--journal`: the file that keeps the sessions over a crash.
+    pub journal: Option<FileName<'a>>,
 }
 
 /// What `call` is told.

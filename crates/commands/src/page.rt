@@ -60,7 +60,7 @@ N    how many calls: 1 to 10000
 ";
 
 const SERVE: &str = "\
-mtp serve --keys F --port P --conns N [--stop-after K]
+mtp serve --keys F --port P --conns N [--stop-after K] [--journal F]
 
 Writes `listening P`, serves N connections one after the other, and writes
 `served N`; or `stopped`, where it was told to stop and did.
@@ -69,6 +69,8 @@ Writes `listening P`, serves N connections one after the other, and writes
 --port P          the port to listen on: 1 to 65535
 --conns N         how many connections to serve: 1 to 1000
 --stop-after K    stops after K packets: 1 to 1000000000
+--journal F       keeps the sessions in the file F, and goes on with those
+                  that it has: after a crash, too
 ";
 
 const CALL: &str = "\

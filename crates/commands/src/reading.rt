@@ -161,11 +161,13 @@ fn serve_options<'a>(taken: &Taken<'a>) -> Result<ServeOptions<'a>, WordsFault>
     let port = taken.number("port", 1, 65_535)? as u16;
     let conns = taken.number("conns", 1, 1_000)? as u32;
     let stop_after = taken.may_number("stop-after", 1, 1_000_000_000)?;
+    let journal = taken.may_file("journal");
     Ok(ServeOptions {
         keys,
         port,
         conns,
         stop_after,
+        journal,
     })
 }
 

@@ -69,7 +69,7 @@ pub(crate) fn load_command<'a>(alloc: Global) -> Result<clap::Command<'a>, Memor
     Ok(clap::Command::new(alloc, "load").arg(operand(alloc, "calls"))?)
 }
 
-/// `serve --keys F --port P --conns N [--stop-after K]`.
+/// `serve --keys F --port P --conns N [--stop-after K] [--journal F]`.
 pub(crate) fn serve_command<'a>(alloc: Global) -> Result<clap::Command<'a>, Memory>
     ensures { IfOk result (λ command. app_of command ≡ serve) }
 {
@@ -77,7 +77,8 @@ pub(crate) fn serve_command<'a>(alloc: Global) -> Result<clap::Command<'a>, Memo
         .arg(needed(alloc, "keys"))?
         .arg(needed(alloc, "port"))?
         .arg(needed(alloc, "conns"))?
-        .arg(option(alloc, "stop-after"))?;
+        .arg(option(alloc, "stop-after"))?
+        .arg(option(alloc, "journal"))?;
     Ok(command)
 }
 

@@ -1,10 +1,10 @@
 //! What the values of options say.
 
 ghost use Rattle.std.specs.Prelude.{◌≡◌, ◌≢◌, ◌<◌, ◌≤◌, ◌^◌, ◌↔◌, ℕ, List, None, Some, IsTrue, IfOk, IfErr, IfSome, IfNone, decimal, option_map};
-ghost use Rattle.commands.specs.Values.{HasText, HasFlag, HasNumber, MayHaveNumber, HasId, MayHaveId, HasForm, HasSecret, IsSecret, form_text, id_text, text_of};
+ghost use Rattle.commands.specs.Values.{HasText, MayHaveText, HasFlag, HasNumber, MayHaveNumber, HasId, MayHaveId, HasForm, HasSecret, IsSecret, form_text, id_text, text_of};
 ghost use Rattle.transport.specs.declared.form.Form.{Form};
 
-use crate::command::{Secret, WordsFault};
+use crate::command::{FileName, Secret, WordsFault};
 use crate::simple::Taken;
 use itoa::Buffer;
 use transport::Form;
@@ -18,6 +18,16 @@ impl<'a> Taken<'a> {
         match self.text(name) {
             Some(text) => Ok(text),
             None => Err(WordsFault::Refused),
+        }
+    }
+
+    /// The file that an argument names, which may be left out.
+    pub(crate) fn may_file(&self, name: &str) -> Option<FileName<'a>>
+        ensures { MayHaveText name.now self.now result }
+    {
+        match self.text(name) {
+            Some(text) => Some(FileName::new(text)),
+            None => None,
         }
     }
 

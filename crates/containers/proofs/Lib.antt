@@ -4,3 +4,4 @@ pub mod Fronts
 pub mod Places
 pub mod Exact
 pub mod Items
+pub mod Bodies

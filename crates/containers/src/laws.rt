@@ -60,3 +60,8 @@ pub fn inner_messages()
     ensures { (number : ℕ) (messages : List Message) → AreSized messages → AllByRecursion IsInRange messages
         → AllByRecursion (KeepsRules number) messages → AllByRecursion (IsInner number) messages }
 {}
+
+/// The messages of a container of bytes are bytes.
+pub fn inner_bodies_are_bytes()
+    ensures { (messages : List Message) → IsBytes (container_of messages) → AllByRecursion (λ message. IsBytes message.body) messages }
+{}

@@ -17,7 +17,7 @@ use Rattle.envelope.specs.Packet.{Lock, Sealed, IsEnvelope, plain_text, packet_o
 use Rattle.envelope.specs.Opening.{Opens, IsRefused, IsPacketSize, IsGoodKey, HasKey, HasPlain, IsKeyMismatch, IsBodyLength, key_named, message_key_said, text_of, length_said, padding_left}
 use Rattle.envelope.specs.Answers.{IfEnvelope, IfRefused}
 use Rattle.envelope.specs.Lawful.{OpensWhatItSealed}
-use Rattle.envelope.specs.Lock.{IsLock, ByteLaws}
+use Rattle.envelope.specs.Lock.{IsLock, LocksAgain, ByteLaws}
 use Rattle.envelope.specs.Reading.{envelope_in, IsWhole, IsPlainRefused}
 use Rattle.envelope.proofs.PlainTexts.{length-plain_text, HasBytes-plain_text, envelope_in-plain_text, plain_text-envelope_in, long_in_front, length_said-plain_text}
 
@@ -194,10 +194,10 @@ body_of-envelope_in : (key : ℕ) (plain : List ℕ) → 32 ≤ length plain →
 unfolding envelope_in
 body_of-envelope_in key plain enough within = length-take-le (length_said plain) (drop 32 plain) (omega (arith, length-drop 32 plain))
 
-pub opens_whole : (lock : Lock) → IsLock lock → ByteLaws → (ring : List RingKey) (now : ℕ) (dir : Dir) (packet plain : List ℕ)
+pub opens_whole : (lock : Lock) → LocksAgain lock → ByteLaws → (ring : List RingKey) (now : ℕ) (dir : Dir) (packet plain : List ℕ)
     → IsBytes packet → IsBytes plain → length plain ≡ length packet - 24 → HasPlain lock ring now dir packet plain → IsWhole plain
     → Opens lock ring now dir packet (envelope_in (key_named packet) plain)
-opens_whole lock is laws ring now dir packet plain bytes plain_bytes long read whole =
+opens_whole lock again laws ring now dir packet plain bytes plain_bytes long read whole =
     let size = read.under.size in
     let least = size.least in
     let blocks = size.blocks in
@@ -219,7 +219,7 @@ opens_whole lock is laws ring now dir packet plain bytes plain_bytes long read w
     let message_key_is : lock.message_key key dir (plain_text envelope padding) ≡ said =
     ap (lock.message_key key dir) plain_is ∙ sym read.message_key in
     let text_is : lock.locked key dir said plain ≡ text =
-    ap (lock.locked key dir said) read.text ∙ is.locked_again key dir said text _ text_bytes in
+    ap (lock.locked key dir said) read.text ∙ again key dir said text _ text_bytes in
     let behind : said ++ text ≡ drop 8 packet =
     ap (λ (l : List ℕ). said ++ l) (sym (drop-drop 16 8 packet)) ∙ take-append-drop 16 (drop 8 packet) in
     let spelled : packet_of lock key dir envelope padding ≡ packet =
@@ -265,7 +265,7 @@ pub envelope_answered : (lock : Lock) → IsLock lock → ByteLaws → (ring : L
     → (answer : Opened) → IfEnvelope answer (λ e. (e ≡ envelope_in id plain) × IsWhole plain)
     → IfEnvelope answer (Opens lock ring now dir packet)
 envelope_answered lock is laws ring now dir packet plain bytes plain_bytes long read id named (opened.Envelope e) (e_is, whole) =
-    subst (Opens lock ring now dir packet) (sym (e_is ∙ ap (λ (k : ℕ). envelope_in k plain) named)) (opens_whole lock is laws ring now dir packet plain bytes plain_bytes long read whole)
+    subst (Opens lock ring now dir packet) (sym (e_is ∙ ap (λ (k : ℕ). envelope_in k plain) named)) (opens_whole lock is.locked_again laws ring now dir packet plain bytes plain_bytes long read whole)
 envelope_answered lock is laws ring now dir packet plain bytes plain_bytes long read id named (opened.Refused refusal) fact = tt
 envelope_answered lock is laws ring now dir packet plain bytes plain_bytes long read id named opened.Memory fact = tt
 

@@ -1,13 +1,14 @@
 -- Plain texts: how long they are, and that they spell one envelope.
 use Rattle.std.proofs.Common.{◌≡◌, ℕ, zero, suc, ◌<◌, ◌≤◌, ◌+◌, ◌-◌, ◌*◌, ◌/◌, ◌^◌, List, ◌++◌, length, take, drop, refl, sym, ap, ◌∙◌, drop-drop, arith, length-append, length-drop}
-use Rattle.std.proofs.lemmas.List.{append_assoc, take_at, take-append-drop, length-take-le}
+use Rattle.std.proofs.lemmas.List.{append_assoc, drop-append-le, take_at, take-append-drop, length-take-le}
 use Rattle.std.proofs.lemmas.Nat.{le_bytes_4, le_bytes_8}
 use Rattle.std.specs.Int.{byte_at, bytes_low_first, from_le_bytes, w32, w64}
 use Rattle.byteorder.specs.Endian.{little_bytes, little_number}
 use Rattle.byteorder.specs.Numbers.{little_number-reads_back, little_from-take}
 use Rattle.octets.specs.Bytes.{IsBytes, HasBytes}
 use Rattle.envelope.specs.declared.parts.Envelope.{Envelope}
-use Rattle.envelope.specs.Packet.{IsEnvelope, IsPadding, plain_text}
+use Rattle.envelope.specs.declared.parts.Head.{Head}
+use Rattle.envelope.specs.Packet.{IsEnvelope, IsPadding, envelope_with, plain_text, to_seal}
 use Rattle.envelope.specs.Opening.{length_said}
 use Rattle.envelope.specs.Lock.{ByteLaws}
 use Rattle.envelope.specs.Reading.{envelope_in}
@@ -133,9 +134,15 @@ plain_text-envelope_in laws key plain bytes enough within =
     let session = long_in_front laws (drop 8 plain) _ (omega (arith, length-drop 8 plain)) (laws.drop 8 plain bytes) (number ∙ sym (drop-drop 8 8 plain)) in
     long_in_front laws plain _ (omega arith) bytes session
 
--- what is written in turn stands behind one another
-pub in_turn : (old a b c d e f g n1 n2 n3 n4 n5 n6 n7 : List ℕ) → n1 ≡ old ++ a → n2 ≡ n1 ++ b → n3 ≡ n2 ++ c → n4 ≡ n3 ++ d
-    → n5 ≡ n4 ++ e → n6 ≡ n5 ++ f → n7 ≡ n6 ++ g → n7 ≡ old ++ (a ++ (b ++ (c ++ (d ++ (e ++ (f ++ g))))))
-in_turn old a b c d e f g n1 n2 n3 n4 n5 n6 n7 h1 h2 h3 h4 h5 h6 h7 =
-    h7 ∙ ap (λ l. l ++ g) (h6 ∙ ap (λ l. l ++ f) (h5 ∙ ap (λ l. l ++ e) (h4 ∙ ap (λ l. l ++ d) (h3 ∙ ap (λ l. l ++ c) (h2 ∙ ap (λ l. l ++ b) h1)))))
-    ∙ simp append_assoc
+-- ---- a text that is sealed where it stands
+
+-- behind what was put in front of a body, the body and the padding stand as they were
+pub plain-in-place : (head : Head) (text padding packet behind plain : List ℕ) (body : ℕ) → packet ≡ text ++ padding → 56 ≤ length text → body ≡ length (to_seal text)
+    → behind ≡ drop 24 packet
+    → plain ≡ little_bytes 8 head.salt ++ (little_bytes 8 head.session ++ (little_bytes 8 head.number ++ (little_bytes 4 head.seq ++ (little_bytes 4 body ++ drop 32 behind))))
+    → plain ≡ plain_text (envelope_with head (to_seal text)) padding
+unfolding plain_text
+plain-in-place head text padding packet behind plain body whole front count there written =
+    let rest : drop 32 behind ≡ to_seal text ++ padding =
+    ap (λ l. drop 32 l) there ∙ (drop-drop 32 24 packet ∙ (ap (λ l. drop 56 l) whole ∙ drop-append-le 56 text padding front)) in
+    written ∙ rw (count, rest) refl

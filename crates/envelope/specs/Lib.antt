@@ -4,3 +4,4 @@ pub mod Lawful
 pub mod Answers
 pub mod Lock
 pub mod Reading
+pub mod Sizes

@@ -38,6 +38,11 @@ clear_lock = record {
   unlocked = λ key dir message_key text. text;
 }
 
+-- what was unlocked of whole blocks of bytes is locked to the same text again
+abbrev pub LocksAgain : Lock → Type 0
+LocksAgain lock = (key : List ℕ) (dir : Dir) (message_key text : List ℕ) (n : ℕ) → HasBytes (16 * n) text
+    → lock.locked key dir message_key (lock.unlocked key dir message_key text) ≡ text
+
 -- ---- What makes a lock of these three functions, for the proofs: scaffolding, and no promise.
 
 pub record IsLock (lock : Lock) : Type 0 where
@@ -46,8 +51,7 @@ pub record IsLock (lock : Lock) : Type 0 where
       → length (lock.locked key dir message_key plain) ≡ length plain
   pub unlocked_again : (key : List ℕ) (dir : Dir) (message_key plain : List ℕ) (n : ℕ) → HasBytes (16 * n) plain
       → lock.unlocked key dir message_key (lock.locked key dir message_key plain) ≡ plain
-  pub locked_again : (key : List ℕ) (dir : Dir) (message_key text : List ℕ) (n : ℕ) → HasBytes (16 * n) text
-      → lock.locked key dir message_key (lock.unlocked key dir message_key text) ≡ text
+  pub locked_again : LocksAgain lock
 
 -- what the crates below promise of lists of bytes
 pub record ByteLaws : Type 0 where

@@ -1,12 +1,13 @@
 -- Packets (core.telegram.org/mtproto/description, "Encrypted Message"): an envelope's plain text, and the
 -- packet that it makes under a key.
-use Rattle.std.specs.Prelude.{◌≡◌, ℕ, ◌<◌, ◌≤◌, ◌+◌, ◌-◌, ◌%◌, ◌^◌, List, ◌++◌, length, Some}
+use Rattle.std.specs.Prelude.{◌≡◌, ℕ, ◌<◌, ◌≤◌, ◌+◌, ◌-◌, ◌%◌, ◌^◌, List, ◌++◌, length, drop, Some}
 use Rattle.byteorder.specs.Endian.{little_bytes}
 use Rattle.octets.specs.Bytes.{IsBytes}
 use Rattle.auth_keys.specs.Rings.{entry_of}
 use Rattle.auth_keys.specs.declared.ring.RingKey.{RingKey}
 use Rattle.envelope.specs.declared.parts.Dir.{Dir}
 use Rattle.envelope.specs.declared.parts.Envelope.{Envelope}
+use Rattle.envelope.specs.declared.parts.Head.{Head}
 
 -- ---- limits
 
@@ -42,6 +43,22 @@ abbrev pub block_bytes : ℕ
 block_bytes = 16
 
 -- ---- what may be sealed
+
+-- the envelope with this head and this body
+abbrev pub envelope_with : Head → List ℕ → Envelope
+envelope_with head body =
+    record {
+      key = head.key;
+      salt = head.salt;
+      session = head.session;
+      number = head.number;
+      seq = head.seq;
+      body = body;
+    }
+
+-- the body in a text that is sealed where it stands: behind the 56 bytes that a packet has in front of it
+abbrev pub to_seal : List ℕ → List ℕ
+to_seal text = drop 56 text
 
 -- the numbers of an envelope have 64 bits, its sequence number 32, and its body is whole words of 4 bytes
 pub record IsEnvelope (envelope : Envelope) : Type 0 where

@@ -14,8 +14,8 @@ mod sealing;
 
 pub use limits::{
     BODY_BYTES_MAX, PACKET_BYTES_MAX, PACKET_BYTES_MIN, PADDING_BYTES_MAX, PADDING_BYTES_MIN,
-    packet_bytes,
+    SEALED_HEAD_BYTES, packet_bytes,
 };
-pub use parts::{Dir, Envelope, Opened};
+pub use parts::{Dir, Envelope, Head, Opened};
 pub use refusal::Refusal;
 pub use seal::{ClearSeal, MtSeal, Seal};

@@ -24,6 +24,9 @@ pub(crate) const PACKET_HEAD_BYTES: usize = 24;
 /// In front of the body: salt, session, number, sequence number and length.
 pub(crate) const PLAIN_HEAD_BYTES: usize = 32;
 
+/// In front of the body in a packet: both.
+pub const SEALED_HEAD_BYTES: usize = 56;
+
 pub(crate) const BLOCK_BYTES: usize = 16;
 
 /// Room for the longest padding that is drawn.

@@ -29,6 +29,21 @@ pub struct Envelope {
     pub body: Octets,
 }
 
+/// What an envelope has beside the body.
+#[derive(Clone, Copy, Debug, PartialEq, Eq)]
+pub struct Head {
+    /// The identifier of the authorisation key.
+    pub key: u64,
+    /// The server's salt.
+    pub salt: u64,
+    /// The session's identifier.
+    pub session: u64,
+    /// The message's identifier.
+    pub number: u64,
+    /// The message's sequence number.
+    pub seq: u32,
+}
+
 /// What a packet opens to.
 #[derive(Debug, Drop)]
 pub enum Opened {

@@ -1,18 +1,18 @@
 //! What every seal promises, and the two that there are.
 
-ghost use Rattle.std.specs.Prelude.{◌≡◌, ◌≤◌, ◌%◌, ◌↔◌, [], IfOk, OnOk, OnErr, IsSome, IsTrue, length};
+ghost use Rattle.std.specs.Prelude.{◌≡◌, ◌≤◌, ◌+◌, ◌%◌, ◌↔◌, [], IfOk, OnOk, OnErr, IsSome, IsTrue, length};
 ghost use Rattle.auth_keys.specs.Rings.{entry_of};
 ghost use Rattle.draws.specs.Draws.{draw_after, next_bytes, words_for};
 ghost use Rattle.envelope.specs.Answers.{IfEnvelope, IfRefused};
 ghost use Rattle.envelope.specs.Lawful.{OpensWhatItSealed};
 ghost use Rattle.envelope.specs.Lock.{mt_lock, clear_lock};
 ghost use Rattle.envelope.specs.Opening.{IsRefused, Opens};
-ghost use Rattle.envelope.specs.Packet.{Sealed, body_max, least_padding, sealed_size};
+ghost use Rattle.envelope.specs.Packet.{Sealed, body_max, envelope_with, least_padding, sealed_size, to_seal};
 
 use crate::cipher::{ClearCipher, MtCipher};
-use crate::limits::packet_bytes;
+use crate::limits::{SEALED_HEAD_BYTES, packet_bytes};
 use crate::opening::{opened, opens_what_it_sealed};
-use crate::parts::{Dir, Envelope, Opened};
+use crate::parts::{Dir, Envelope, Head, Opened};
 use crate::sealing::sealed;
 use auth_keys::Ring;
 use draws::Draw;
@@ -38,16 +38,16 @@ pub trait Seal {
     fn ring(&self) -> &Ring
         ensures { result.now ≡ keys self.now };
 
-    /// As [`Seal::seal`], in room that was taken before: it takes no memory. The buffer has no byte yet, and room for
-    /// [`packet_bytes`] bytes.
-    fn seal_in<D: Draw>(&self, room: Buffer, dir: Dir, env: &Envelope, draw: &mut D) -> Octets
-        requires key { IsSome (entry_of env.now.key (keys self.now)) }
-        requires words { length env.now.body % 4 ≡ 0 }
-        requires short { length env.now.body ≤ body_max }
-        requires empty { room.bytes ≡ [] }
-        requires room { sealed_size (length env.now.body) ≤ room.room }
-        ensures sealed { Sealed lock (keys self.now) dir env.now (next_bytes D.step (least_padding (length env.now.body)) draw.old) result }
-        ensures drawn { draw.new ≡ draw_after D.step (words_for (least_padding (length env.now.body))) draw.old };
+    /// Seals a body where it stands: the buffer has [`SEALED_HEAD_BYTES`] bytes of any kind, then the body, and room for
+    /// the rest of [`packet_bytes`]. The padding is that of [`Seal::seal`]. Takes no memory.
+    fn seal_in_place<D: Draw>(&self, text: Buffer, dir: Dir, head: &Head, draw: &mut D) -> Octets
+        requires key { IsSome (entry_of head.now.key (keys self.now)) }
+        requires front { 56 ≤ length text.bytes }
+        requires words { length (to_seal text.bytes) % 4 ≡ 0 }
+        requires short { length (to_seal text.bytes) ≤ body_max }
+        requires room { sealed_size (length (to_seal text.bytes)) ≤ length text.bytes + text.room }
+        ensures sealed { Sealed lock (keys self.now) dir (envelope_with head.now (to_seal text.bytes)) (next_bytes D.step (least_padding (length (to_seal text.bytes))) draw.old) result }
+        ensures drawn { draw.new ≡ draw_after D.step (words_for (least_padding (length (to_seal text.bytes)))) draw.old };
 
     /// Opens a packet that comes at this moment in this direction: to the one envelope that it is the packet of, under
     /// a key of the ring that is permanent or expires later. It is refused for the first case that holds; the cases
@@ -83,6 +83,30 @@ pub trait Seal {
     {
         let room = Buffer::new(alloc, packet_bytes(env.body.as_slice().len()))?;
         Ok(self.seal_in(room, dir, env, draw))
+    }
+
+    /// As [`Seal::seal`], in room that was taken before: it takes no memory. The buffer has no byte yet, and room for
+    /// [`packet_bytes`] bytes.
+    final fn seal_in<D: Draw>(&self, room: Buffer, dir: Dir, env: &Envelope, draw: &mut D) -> Octets
+        requires key { IsSome (entry_of env.now.key (keys self.now)) }
+        requires words { length env.now.body % 4 ≡ 0 }
+        requires short { length env.now.body ≤ body_max }
+        requires empty { room.bytes ≡ [] }
+        requires room { sealed_size (length env.now.body) ≤ room.room }
+        ensures sealed { Sealed lock (keys self.now) dir env.now (next_bytes D.step (least_padding (length env.now.body)) draw.old) result }
+        ensures drawn { draw.new ≡ draw_after D.step (words_for (least_padding (length env.now.body))) draw.old }
+    {
+        let mut text = room;
+        text.push_all(&[0; SEALED_HEAD_BYTES]);
+        text.push_all(env.body.as_slice());
+        let head = Head {
+            key: env.key,
+            salt: env.salt,
+            session: env.session,
+            number: env.number,
+            seq: env.seq,
+        };
+        self.seal_in_place(text, dir, &head, draw)
     }
 
     /// Whether the ring has the key with this identifier.
@@ -126,8 +150,8 @@ impl Seal for MtSeal {
         &self.ring
     }
 
-    fn seal_in<D: Draw>(&self, room: Buffer, dir: Dir, env: &Envelope, draw: &mut D) -> Octets {
-        sealed::<MtCipher, D>(room, &self.ring, dir, env, draw)
+    fn seal_in_place<D: Draw>(&self, text: Buffer, dir: Dir, head: &Head, draw: &mut D) -> Octets {
+        sealed::<MtCipher, D>(text, &self.ring, dir, head, draw)
     }
 
     fn unseal(&self, alloc: Global, now: Moment, dir: Dir, packet: &[u8]) -> Opened {
@@ -173,8 +197,8 @@ impl Seal for ClearSeal {
         &self.ring
     }
 
-    fn seal_in<D: Draw>(&self, room: Buffer, dir: Dir, env: &Envelope, draw: &mut D) -> Octets {
-        sealed::<ClearCipher, D>(room, &self.ring, dir, env, draw)
+    fn seal_in_place<D: Draw>(&self, text: Buffer, dir: Dir, head: &Head, draw: &mut D) -> Octets {
+        sealed::<ClearCipher, D>(text, &self.ring, dir, head, draw)
     }
 
     fn unseal(&self, alloc: Global, now: Moment, dir: Dir, packet: &[u8]) -> Opened {

@@ -1,97 +1,135 @@
 //! Packets sealed.
 
-ghost use Rattle.std.specs.Prelude.{◌≡◌, ◌≤◌, ◌+◌, ◌-◌, ◌%◌, ◌++◌, [], IsSome, length, take, drop};
+ghost use Rattle.std.specs.Prelude.{◌≡◌, ◌≤◌, ◌+◌, ◌-◌, ◌%◌, ◌++◌, ℕ, List, IsSome, length, take, drop};
+ghost use Rattle.byteorder.specs.Endian.{little_bytes};
+ghost use Rattle.octets.specs.Bytes.{IsBytes};
 ghost use Rattle.auth_keys.specs.Rings.{entry_of};
 ghost use Rattle.draws.specs.Draws.{draw_after, next_bytes, words_for};
-ghost use Rattle.envelope.specs.Packet.{IsEnvelope, IsPadding, Sealed, body_max, least_padding, packet_max, packet_of, plain_text, sealed_size};
+ghost use Rattle.envelope.specs.Packet.{IsEnvelope, IsPadding, Sealed, body_max, envelope_with, least_padding, packet_max, packet_of, plain_text, sealed_size, to_seal};
 
 use crate::cipher::Cipher;
-use crate::limits::{PACKET_HEAD_BYTES, PADDING_ROOM, least_padding};
-use crate::parts::{Dir, Envelope};
+use crate::limits::{PACKET_HEAD_BYTES, PADDING_ROOM, SEALED_HEAD_BYTES, least_padding};
+use crate::parts::{Dir, Head};
 use auth_keys::{AuthKey, Ring};
 use draws::{Draw, draw_bytes};
+use octets::laws::parts_are_bytes;
 use octets::{Buffer, Octets};
 
-/// Seals an envelope under the key of a ring that it names, in room that was taken before.
+/// Seals a body in the room that it stands in, under the key of a ring that its head names.
 pub fn sealed<C: Cipher, D: Draw>(
-    room: Buffer,
+    text: Buffer,
     ring: &Ring,
     dir: Dir,
-    env: &Envelope,
+    head: &Head,
     draw: &mut D,
 ) -> Octets
-    requires key { IsSome (entry_of env.now.key ring.now) }
-    requires words { length env.now.body % 4 ≡ 0 }
-    requires short { length env.now.body ≤ body_max }
-    requires empty { room.bytes ≡ [] }
-    requires room { sealed_size (length env.now.body) ≤ room.room }
-    ensures sealed { Sealed C.lock ring.now dir env.now (next_bytes D.step (least_padding (length env.now.body)) draw.old) result }
-    ensures drawn { draw.new ≡ draw_after D.step (words_for (least_padding (length env.now.body))) draw.old }
+    requires key { IsSome (entry_of head.now.key ring.now) }
+    requires front { 56 ≤ length text.bytes }
+    requires words { length (to_seal text.bytes) % 4 ≡ 0 }
+    requires short { length (to_seal text.bytes) ≤ body_max }
+    requires room { sealed_size (length (to_seal text.bytes)) ≤ length text.bytes + text.room }
+    ensures sealed { Sealed C.lock ring.now dir (envelope_with head.now (to_seal text.bytes)) (next_bytes D.step (least_padding (length (to_seal text.bytes))) draw.old) result }
+    ensures drawn { draw.new ≡ draw_after D.step (words_for (least_padding (length (to_seal text.bytes)))) draw.old }
 {
-    match ring.find(env.key) {
-        Some(key) => sealed_under::<C, D>(room, key, dir, env, draw),
+    match ring.find(head.key) {
+        Some(key) => sealed_under::<C, D>(text, key, dir, head, draw),
         None => unreachable!(),
     }
 }
 
-// Seals an envelope under a key.
+// Seals a body under a key, in the room that it stands in.
 fn sealed_under<C: Cipher, D: Draw>(
-    mut room: Buffer,
+    mut text: Buffer,
     key: &AuthKey,
     dir: Dir,
-    env: &Envelope,
+    head: &Head,
     draw: &mut D,
 ) -> Octets
-    requires words { length env.now.body % 4 ≡ 0 }
-    requires short { length env.now.body ≤ body_max }
-    requires empty { room.bytes ≡ [] }
-    requires room { sealed_size (length env.now.body) ≤ room.room }
-    ensures spelled { result ≡ packet_of C.lock key.now dir env.now (next_bytes D.step (least_padding (length env.now.body)) draw.old) }
-    ensures drawn { draw.new ≡ draw_after D.step (words_for (least_padding (length env.now.body))) draw.old }
-    ensures lawful { IsEnvelope env.now }
-    ensures padded { IsPadding (length env.now.body) (next_bytes D.step (least_padding (length env.now.body)) draw.old) }
+    requires front { 56 ≤ length text.bytes }
+    requires words { length (to_seal text.bytes) % 4 ≡ 0 }
+    requires short { length (to_seal text.bytes) ≤ body_max }
+    requires room { sealed_size (length (to_seal text.bytes)) ≤ length text.bytes + text.room }
+    ensures spelled { result ≡ packet_of C.lock key.now dir (envelope_with head.now (to_seal text.bytes)) (next_bytes D.step (least_padding (length (to_seal text.bytes))) draw.old) }
+    ensures drawn { draw.new ≡ draw_after D.step (words_for (least_padding (length (to_seal text.bytes)))) draw.old }
+    ensures lawful { IsEnvelope (envelope_with head.now (to_seal text.bytes)) }
+    ensures padded { IsPadding (length (to_seal text.bytes)) (next_bytes D.step (least_padding (length (to_seal text.bytes))) draw.old) }
     ensures fits { length result ≤ packet_max }
 {
-    lawful(env);
+    lawful(head);
+    let body = body_bytes(&text);
     let mut drawn = [0; PADDING_ROOM];
-    let padding = &mut drawn[..least_padding(env.body.as_slice().len())];
+    let padding = &mut drawn[..least_padding(body)];
     draw_bytes(draw, padding);
-    room.push_all(&env.key.to_le_bytes());
-    room.push_all(&[0; 16]);
-    put_plain(&mut room, env, padding);
-    let mut packet = room.into_octets().into_vec();
-    seal_text::<C>(key, dir, &mut packet);
+    text.push_all(padding);
+    let mut packet = text.into_octets().into_vec();
+    seal_behind::<C>(key, dir, head, body as u32, &mut packet);
     Octets::from(packet)
 }
 
-// An envelope's numbers fit their types, so that one whose body is whole words is lawful.
-fn lawful(env: &Envelope)
-    requires { length env.now.body % 4 ≡ 0 }
-    ensures { IsEnvelope env.now }
+// A head's numbers fit their types, so that with a body of whole words it is a lawful envelope.
+fn lawful(head: &Head)
+    ensures { (body : List ℕ) → IsBytes body → length body % 4 ≡ 0 → IsEnvelope (envelope_with head.now body) }
 {
-    let _key = env.key;
-    let _salt = env.salt;
-    let _session = env.session;
-    let _number = env.number;
-    let _seq = env.seq;
-    let _body = env.body.as_slice();
+    let _key = head.key;
+    let _salt = head.salt;
+    let _session = head.session;
+    let _number = head.number;
+    let _seq = head.seq;
 }
 
-// Puts the plain text of an envelope at the end.
-fn put_plain(into: &mut Buffer, env: &Envelope, padding: &[u8])
-    requires short { length env.now.body ≤ body_max }
-    requires room { 32 + length env.now.body + length padding.now ≤ into.old.room }
-    ensures written { into.new.bytes ≡ into.old.bytes ++ plain_text env.now padding.now }
-    ensures count { length into.new.bytes ≡ length into.old.bytes + 32 + length env.now.body + length padding.now }
+// How many bytes the body has.
+fn body_bytes(text: &Buffer) -> usize
+    requires { 56 ≤ length text.now.bytes }
+    ensures value { result ≡ length (to_seal text.now.bytes) }
+    ensures whole { length text.now.bytes ≡ 56 + result }
+    ensures bytes { IsBytes (to_seal text.now.bytes) }
 {
-    let body = env.body.as_slice();
-    into.push_all(&env.salt.to_le_bytes());
-    into.push_all(&env.session.to_le_bytes());
-    into.push_all(&env.number.to_le_bytes());
-    into.push_all(&env.seq.to_le_bytes());
-    into.push_all(&(body.len() as u32).to_le_bytes());
-    into.push_all(body);
-    into.push_all(padding);
+    parts_are_bytes();
+    text.as_slice().len() - SEALED_HEAD_BYTES
+}
+
+// Makes a packet of a text that has its body, of so many bytes, and its padding behind the bytes in front.
+fn seal_behind<C: Cipher>(key: &AuthKey, dir: Dir, head: &Head, body: u32, packet: &mut [u8])
+    requires front { 56 ≤ length packet.old }
+    requires blocks { (length packet.old - 24) % 16 ≡ 0 }
+    ensures spelled { (text padding : List ℕ) → packet.old ≡ text ++ padding → 56 ≤ length text → body ≡ length (to_seal text)
+        → packet.new ≡ packet_of C.lock key.now dir (envelope_with head.now (to_seal text)) padding }
+    ensures count { length packet.new ≡ length packet.old }
+{
+    put_head(head, body, packet);
+    seal_text::<C>(key, dir, packet);
+}
+
+// Puts what stands in front of a body of so many bytes over the bytes there, but for the message key.
+fn put_head(head: &Head, body: u32, packet: &mut [u8])
+    requires { 56 ≤ length packet.old }
+    ensures key { take 8 packet.new ≡ little_bytes 8 head.now.key }
+    ensures plain { (text padding : List ℕ) → packet.old ≡ text ++ padding → 56 ≤ length text → body ≡ length (to_seal text)
+        → drop 24 packet.new ≡ plain_text (envelope_with head.now (to_seal text)) padding }
+    ensures count { length packet.new ≡ length packet.old }
+{
+    let (front, text) = packet.split_at_mut(PACKET_HEAD_BYTES);
+    front[..8].copy_from_slice(&head.key.to_le_bytes());
+    put_plain_head(head, body, text);
+}
+
+// Puts what stands in front of a body in its plain text.
+fn put_plain_head(head: &Head, body: u32, text: &mut [u8])
+    requires { 32 ≤ length text.old }
+    ensures written { text.new ≡ little_bytes 8 head.now.salt ++ (little_bytes 8 head.now.session ++ (little_bytes 8 head.now.number
+        ++ (little_bytes 4 head.now.seq ++ (little_bytes 4 body ++ drop 32 text.old)))) }
+    ensures count { length text.new ≡ length text.old }
+{
+    let (salt, text) = text.split_at_mut(8);
+    let (session, text) = text.split_at_mut(8);
+    let (number, text) = text.split_at_mut(8);
+    let (seq, text) = text.split_at_mut(4);
+    let (length, _body) = text.split_at_mut(4);
+    salt.copy_from_slice(&head.salt.to_le_bytes());
+    session.copy_from_slice(&head.session.to_le_bytes());
+    number.copy_from_slice(&head.number.to_le_bytes());
+    seq.copy_from_slice(&head.seq.to_le_bytes());
+    length.copy_from_slice(&body.to_le_bytes());
 }
 
 // Makes a packet of one that has its plain text behind the identifier and room for the message key.

@@ -4,7 +4,8 @@ use Rattle.std.specs.List.{list_any}
 use Rattle.std.proofs.lemmas.Bool.{cases_lt, cases_Bool, lt-ltb, le-ltb, ltb-true, eqb-true, and_parts, or_cases, or_left}
 use Rattle.id_window.specs.declared.rows.Accepted.{Accepted}
 use Rattle.id_window.specs.declared.cross.Cross.TheVariants.{None as Apart, Low, High}
-use Rattle.id_window.specs.Crossing.{is_odd, is_past, is_short, makes_low, makes_high, crossing}
+use Rattle.id_window.specs.Crossing.{is_past, is_short, makes_low, makes_high, crossing}
+use Rattle.msg_ids.specs.Counters.{is_odd}
 use Rattle.id_window.specs.Window.{IsAbove, Rises, IsFrom, SeqsNeverFall}
 use Rattle.id_window.specs.Places.{last_below, first_above, is_some_past, is_some_short}
 use Rattle.id_window.proofs.PlaceLemmas.{accepted_key}

@@ -5,7 +5,8 @@ use Rattle.std.proofs.lemmas.Bool.{cases_lt, cases_eq, lt-ltb, le-ltb, ltb-false
 use Rattle.id_window.specs.declared.rows.Row.{Row}
 use Rattle.id_window.specs.declared.rows.Accepted.{Accepted}
 use Rattle.id_window.specs.History.{inserted}
-use Rattle.id_window.specs.Crossing.{is_odd, is_past, is_short, makes_low, makes_high}
+use Rattle.id_window.specs.Crossing.{is_past, is_short, makes_low, makes_high}
+use Rattle.msg_ids.specs.Counters.{is_odd}
 use Rattle.id_window.specs.Window.{IsAbove, Rises, IsFrom, SeqsNeverFall, mark_in}
 use Rattle.id_window.proofs.PlaceLemmas.{row_number, accepted_key, above_lower}
 

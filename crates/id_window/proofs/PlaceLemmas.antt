@@ -48,6 +48,17 @@ place_from_partition key number (x ∷ xs) (suc i) le below above =
     let rest : i ≡ place number (map key xs) = place_from_partition key number xs i (omega arith) (λ k d lo hi. below (suc k) d (omega arith) (omega arith)) (λ k d lo hi. above (suc k) d (omega arith) (omega arith)) in
     rw here (omega arith)
 
+-- a number that is above the last one has its place behind all
+pub place_behind : {X : Type 0} (key : X → ℕ) (number : ℕ) (xs : List X) (k : ℕ) (d : X) → Rises (map key xs) → length xs ≡ suc k → key (get_or xs k d) < number → suc k ≡ place number (map key xs)
+place_behind key number [] k d rises long below = absurd (omega arith)
+place_behind key number (x ∷ []) zero d rises long below = let e : ltb (key x) number ≡ true = lt-ltb (key x) number below in rw e (omega arith)
+place_behind key number (x ∷ (y ∷ ys)) zero d rises long below = absurd (omega arith)
+place_behind key number (x ∷ xs) (suc k) d rises long below =
+    let here : key x < key (get_or xs k d) = above_at key (key x) xs rises.0 k d (omega arith) in
+    let e : ltb (key x) number ≡ true = lt-ltb (key x) number (omega arith) in
+    let rest : suc k ≡ place number (map key xs) = place_behind key number xs k d rises.1 (omega arith) below in
+    rw e (omega arith)
+
 -- the place of a number that is above the first one, or isn't
 pub place_later : (number x : ℕ) (xs : List ℕ) → x < number → place number (x ∷ xs) ≡ suc (place number xs)
 place_later number x xs below = let e : ltb x number ≡ true = lt-ltb x number below in rw e (omega arith)

@@ -1,13 +1,11 @@
 -- When sequence numbers contradict message numbers (core.telegram.org/mtproto/service_messages_about_messages,
 -- "Notice of Ignored Error Message", codes 32 and 33).
-use Rattle.std.specs.Prelude.{ℕ, ◌%◌, Bool, nat_lt, ◌==◌, ◌&&◌, ◌||◌, if◌then◌else◌, List}
+use Rattle.std.specs.Prelude.{ℕ, Bool, nat_lt, ◌==◌, ◌&&◌, ◌||◌, if◌then◌else◌, List}
 use Rattle.std.specs.List.{list_any}
+use Rattle.msg_ids.specs.Counters.{is_odd}
 use Rattle.id_window.specs.declared.rows.Accepted.{Accepted}
 use Rattle.id_window.specs.declared.cross.Cross.{Cross}
 use Rattle.id_window.specs.declared.cross.Cross.TheVariants.{None as Apart, Low, High}
-
-abbrev pub is_odd : ℕ → Bool
-is_odd seq = seq % 2 == 1
 
 -- an accepted seq is above this one, or equal to it and odd
 abbrev pub is_past : ℕ → ℕ → Bool

@@ -55,12 +55,20 @@ impl Numbered for Accepted {
     }
 }
 
-/// How many entries have a number below this one, in an ascending order. Found by halving.
+/// How many entries have a number below this one, in an ascending order. Numbers mostly come in order, so the last entry is
+/// looked at first; else it is found by halving.
 pub(crate) fn place_of<T: Numbered>(entries: &VecDeque<T>, number: u64) -> usize
     requires { Rises (map T.number_of entries.now.items) }
     ensures place { result ≡ place number (map T.number_of entries.now.items) }
     ensures within { result ≤ length entries.now.items }
 {
+    let count = entries.len();
+    if count == 0 {
+        return 0;
+    }
+    if entries[count - 1].number() < number {
+        return count;
+    }
     entries.partition_point(|entry| entry.number() < number)
 }
 

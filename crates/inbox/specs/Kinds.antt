@@ -1,21 +1,17 @@
 -- What a message is for judging, by how its body begins.
 use Rattle.std.specs.Prelude.{ℕ, ◌==◌, nat_lt, Bool, true, false, if◌then◌else◌, List, [], ◌∷◌, length, Option, Some, None, Result, Ok, Err}
 use Rattle.std.specs.List.{list_any}
-use Rattle.byteorder.specs.Endian.{little_number}
 use Rattle.service_tl.specs.declared.item.Item.{Item}
 use Rattle.service_tl.specs.declared.item.Item.TheVariants.{MsgContainer}
 use Rattle.service_tl.specs.declared.lists.Message.{Message}
 use Rattle.service_tl.specs.ItemOf.{item_of}
+use Rattle.service_tl.specs.Results.{constructor_of}
 use Rattle.service_tl.specs.Schema.{service_numbers, gzip_packed, msgs_ack, invoke_after_msg, invoke_after_msgs, auth_bind_temp_auth_key}
 use Rattle.containers.specs.declared.fault.ContainerFault.{ContainerFault}
 use Rattle.containers.specs.Container.{begins_container}
 use Rattle.containers.specs.Parts.{parts_of}
 use Rattle.inbox.specs.declared.kind.Kind.{Kind}
 use Rattle.inbox.specs.declared.kind.Kind.TheVariants.{Container, Unlawful, Acknowledgement, Call, Other}
-
--- the constructor that begins a body; none where it has fewer than 4 bytes
-abbrev pub constructor_of : List ℕ → Option ℕ
-constructor_of body = if nat_lt (length body) 4 then None else Some (little_number 4 body)
 
 -- the constructors of bodies that hold a call for the service, or stand for one: gzip_packed, invokeAfterMsg,
 -- invokeAfterMsgs and auth.bindTempAuthKey

@@ -7,7 +7,7 @@ use Rattle.salt_line.specs.Rows.{Row, since, until}
 use Rattle.salt_line.specs.Line.{Line}
 use Rattle.id_window.specs.declared.cross.Cross.{Cross}
 use Rattle.id_window.specs.declared.cross.Cross.TheVariants.{None as Apart, Low, High}
-use Rattle.id_window.specs.Crossing.{is_odd}
+use Rattle.msg_ids.specs.Counters.{is_odd}
 use Rattle.id_window.specs.History.{History, floor, crosses}
 use Rattle.service_tl.specs.declared.lists.Message.{Message}
 use Rattle.inbox.specs.declared.kind.Kind.{Kind}

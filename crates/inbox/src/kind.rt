@@ -2,17 +2,14 @@
 
 ghost use Rattle.std.specs.Prelude.{◌≡◌, ◌==◌};
 ghost use Rattle.std.specs.List.{list_any};
-ghost use Rattle.inbox.specs.Kinds.{constructor_of, begins_call, calling_numbers, container_in, kind_among, kind_beginning};
+ghost use Rattle.inbox.specs.Kinds.{begins_call, calling_numbers, container_in, kind_among, kind_beginning};
 
-use byteorder::{ByteOrder, LittleEndian};
 use containers::{ContainerFault, Parts, is_container};
 use id_window::Mark;
 use service_tl::{
-    AUTH_BIND_TEMP_AUTH_KEY, GZIP_PACKED, INVOKE_AFTER_MSG, INVOKE_AFTER_MSGS, MSGS_ACK, is_service,
+    AUTH_BIND_TEMP_AUTH_KEY, GZIP_PACKED, INVOKE_AFTER_MSG, INVOKE_AFTER_MSGS, MSGS_ACK,
+    constructor_of, is_service,
 };
-
-/// The bytes of a constructor.
-const CONSTRUCTOR_BYTES: usize = 4;
 
 /// What a message is for judging.
 #[derive(Clone, Copy)]
@@ -102,16 +99,6 @@ fn kind_beginning(constructor: Option<u32>) -> Kind
         return Kind::Call;
     }
     Kind::Other
-}
-
-/// The constructor that begins the body.
-fn constructor_of(body: &[u8]) -> Option<u32>
-    ensures { result ≡ constructor_of body.now }
-{
-    if body.len() < CONSTRUCTOR_BYTES {
-        return None;
-    }
-    Some(LittleEndian::read_u32(body))
 }
 
 /// Whether a body that this constructor begins is a call: no service item, or one that holds a call or stands for one.

@@ -12,39 +12,10 @@ use crate::kind::Kind;
 use id_window::{Cross, Window};
 use msg_ids::Moment;
 use salt_line::SaltLine;
-
-/// The number is too low: the message is too old.
-pub(crate) const TOO_OLD: u32 = 16;
-
-/// The number is too high: the message comes too early.
-pub(crate) const TOO_NEW: u32 = 17;
-
-/// The number's two low bits aren't 0.
-pub(crate) const NOT_FOURFOLD: u32 = 18;
-
-/// A container has the number of another message.
-pub(crate) const CONTAINER_NUMBER_TAKEN: u32 = 19;
-
-/// The number is too old to say whether it came before.
-pub(crate) const FORGOTTEN: u32 = 20;
-
-/// The sequence number is too low.
-pub(crate) const SEQ_TOO_LOW: u32 = 32;
-
-/// The sequence number is too high.
-pub(crate) const SEQ_TOO_HIGH: u32 = 33;
-
-/// An even sequence number was expected.
-pub(crate) const EVEN_SEQ_EXPECTED: u32 = 34;
-
-/// An odd sequence number was expected.
-pub(crate) const ODD_SEQ_EXPECTED: u32 = 35;
-
-/// The salt isn't valid.
-pub(crate) const WRONG_SALT: u32 = 48;
-
-/// The container isn't lawful.
-pub(crate) const INVALID_CONTAINER: u32 = 64;
+use service_tl::codes::{
+    EVEN_SEQ_EXPECTED, FORGOTTEN, INVALID_CONTAINER, NUMBER_NOT_FOURFOLD, NUMBER_TOO_HIGH,
+    NUMBER_TOO_LOW, ODD_SEQ_EXPECTED, SEQ_TOO_HIGH, SEQ_TOO_LOW, WRONG_SALT,
+};
 
 /// How many seconds old a message is at most.
 const OLDEST_SECONDS: u64 = 300;
@@ -62,10 +33,10 @@ pub(crate) fn by_envelope(now: Moment, line: &SaltLine, number: u64, salt: u64) 
 {
     let second = number >> SECOND_BITS;
     if second + OLDEST_SECONDS < now.seconds() {
-        return Some(TOO_OLD);
+        return Some(NUMBER_TOO_LOW);
     }
     if second > now.seconds() + NEWEST_SECONDS {
-        return Some(TOO_NEW);
+        return Some(NUMBER_TOO_HIGH);
     }
     if line.judge(now, salt) {
         return None;
@@ -101,7 +72,7 @@ fn by_number(floor: u64, number: u64) -> Option<u32>
     if number % 4 == 0 {
         return None;
     }
-    Some(NOT_FOURFOLD)
+    Some(NUMBER_NOT_FOURFOLD)
 }
 
 fn by_parity(kind: Kind, seq: u32) -> Option<u32>

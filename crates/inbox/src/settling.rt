@@ -9,9 +9,10 @@ ghost use Rattle.inbox.specs.Drafts.{draft_judgement, draft_session, draft_judge
 use crate::draft::Draft;
 use crate::judged::{Judgement, Verdict};
 use crate::kind::Kind;
-use crate::refusal::{CONTAINER_NUMBER_TAKEN, FORGOTTEN, refusal};
+use crate::refusal::refusal;
 use id_window::{Mark, Window};
 use service_tl::Item;
+use service_tl::codes::{CONTAINER_NUMBER_TAKEN, FORGOTTEN};
 
 /// Judges a message, where this is the code by its envelope, and notes what is new.
 pub(crate) fn settle(window: &mut Window, envelope: Option<u32>, draft: Draft) -> Judgement

@@ -1,6 +1,6 @@
 //! A key file as a ring, and why there is none.
 
-ghost use Rattle.std.specs.Prelude.{◌≡◌, IfOk, IfSome, IsSomeAnd, MatchOption};
+ghost use Rattle.std.specs.Prelude.{◌≡◌, ◌≢◌, ◌<◌, Err, IfOk, IfSome, IsSome, IsSomeAnd, MatchOption};
 ghost use Rattle.key_files.specs.Files.{AsksOnce, CountsBy, GivesBy, line_of, not_read, refused_at};
 
 use auth_keys::{KeyFault, Ring};
@@ -35,6 +35,7 @@ pub enum KeysFault {
 pub fn read_ring<F: KeyFiles>(alloc: Global, name: &str, files: &mut F) -> Result<Ring, KeysFault>
     ensures gives { GivesBy (F.told files.old) name.now result }
     ensures asked { IfSome (F.told files.new) (λ after. IsSomeAnd (F.told files.old) (λ before. AsksOnce name.now before after)) }
+    ensures still_tells { IsSome (F.told files.old) → result ≢ Err KeysFault.Memory → 0 < F.room files.old → IsSome (F.told files.new) }
     ensures counted { CountsBy result (F.faults files.old) (F.faults files.new) }
 {
     match files.read(alloc, name) {

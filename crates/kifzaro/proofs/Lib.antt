@@ -5,3 +5,4 @@ pub mod PollLemmas
 pub mod QueueLemmas
 pub mod RequestLemmas
 pub mod ServerLemmas
+pub mod FittingLemmas

@@ -1,7 +1,5 @@
 -- What an event leaves of a server with its draw and its packets.
-use Rattle.std.proofs.Common.{◌≡◌, ◌≤◌, ℕ, false, Option, Some, None, List, [], ◌∷◌, ◌++◌, max, zero, suc, ap, refl, sym, subst, ◌∙◌, arith}
-use Rattle.std.specs.Prelude.{is_some}
-use Rattle.std.proofs.lemmas.Bool.{true≢false}
+use Rattle.std.proofs.Common.{◌≡◌, ◌≤◌, ℕ, None, List, [], ◌∷◌, ◌++◌, max, zero, suc, ap, refl, sym, subst, ◌∙◌, arith}
 use Rattle.auth_keys.specs.declared.ring.RingKey.{RingKey}
 use Rattle.draws.specs.ChaChaWords.{ChaChaPlace}
 use Rattle.draws.specs.Draws.{draw_after}
@@ -125,8 +123,3 @@ pub moved : Later → (before after : Kept) (now : ℕ) (server : Server) → no
 moved law before after now server given is same =
     let both = moment_alone law before.server after.server now server given is.stands is.order same in
     record { stands = both.0; order = both.1 }
-
--- no request waits
-pub not_asked : (asked : Option (List ℕ)) → is_some asked ≡ false → asked ≡ None
-not_asked None none = refl
-not_asked (Some request) none = absurd (true≢false none)

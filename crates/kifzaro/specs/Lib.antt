@@ -1,5 +1,6 @@
 pub mod Errors
 pub mod Rooms
+pub mod Fitting
 pub mod Drawing
 pub mod Clients
 pub mod Holding

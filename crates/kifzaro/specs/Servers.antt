@@ -1,5 +1,5 @@
 -- A server with its draw and what it has to hand out, and the server of the rules that it is.
-use Rattle.std.specs.Prelude.{◌≡◌, ℕ, true, Option, None, is_some, List, ◌++◌, length, max, Result, Ok, Err, ⊤}
+use Rattle.std.specs.Prelude.{◌≡◌, ℕ, Bool, true, false, Option, None, is_some, List, ◌++◌, length, max, Result, Ok, Err, ⊤}
 use Rattle.auth_keys.specs.declared.ring.RingKey.{RingKey}
 use Rattle.draws.specs.ChaChaWords.{ChaChaPlace}
 use Rattle.envelope.specs.Lock.{mt_lock}
@@ -11,9 +11,10 @@ use Rattle.server_rules.specs.Answer.{Answer, after_work}
 use Rattle.server_rules.specs.Event.{Setting}
 use Rattle.server_rules.specs.Server.{Server}
 use Rattle.server_core.specs.declared.desk.Heard.TheVariants.{Judged, NotOpened}
-use Rattle.server_core.specs.Desks.{IsBetweenEvents}
+use Rattle.server_core.specs.Desks.{IsBetweenEvents, request_at}
 use Rattle.server_core.specs.Packets.{IsHeardOf}
 use Rattle.server_core.specs.Server as core
+use Rattle.waits.specs.Jobs.{Queue}
 use Rattle.kifzaro.specs.declared.error.Error.{Error}
 use Rattle.kifzaro.specs.declared.error.Error.TheVariants as errors
 use Rattle.kifzaro.specs.declared.names.SessionName.{SessionName}
@@ -27,6 +28,11 @@ pub record Kept : Type 0 where
   pub draw : ChaChaPlace
   pub waiting : List Out
   pub asked : Option (List ℕ)
+
+-- the request of the first ready job, where it was handed out
+abbrev pub handed_out : Bool → Queue → Option (List ℕ)
+handed_out true jobs = request_at 0 jobs
+handed_out false jobs = None
 
 -- it is this server of the rules, which is in order and within its limits
 pub record Is (kept : Kept) (server : Server) : Type 0 where

@@ -284,7 +284,7 @@ impl Client {
         match self.holder.take() {
             Some(holder) => {
                 let (holder, heard) = holding::hear(holder, alloc, now, &self.seal, packet);
-                self.holder = Some(holder);
+                holding::put(&mut self.holder, holder);
                 heard
             }
             None => unreachable!(),
@@ -307,7 +307,7 @@ impl Client {
         match self.holder.take() {
             Some(holder) => {
                 let (holder, done) = holding::renew(holder, &mut self.draw);
-                self.holder = Some(holder);
+                holding::put(&mut self.holder, holder);
                 done
             }
             None => unreachable!(),
@@ -329,7 +329,7 @@ impl Client {
         match self.holder.take() {
             Some(holder) => {
                 let (holder, done) = holding::end(holder);
-                self.holder = Some(holder);
+                holding::put(&mut self.holder, holder);
                 done
             }
             None => unreachable!(),

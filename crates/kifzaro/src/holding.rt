@@ -1,6 +1,6 @@
 //! The events of a client, whatever state it is in.
 
-ghost use Rattle.std.specs.Prelude.{◌≡◌, Ok, IfErr, IfOk, OnErr, OnOk, false, length, max, true};
+ghost use Rattle.std.specs.Prelude.{◌≡◌, Ok, Some, IfErr, IfOk, OnErr, OnOk, false, length, max, true};
 ghost use Rattle.call_table.specs.Table.{call_no};
 ghost use Rattle.draws.specs.Draws.{draw_after, word_after};
 ghost use Rattle.envelope.specs.declared.parts.Dir.TheVariants.{Down};
@@ -29,7 +29,7 @@ use octets::Memory;
 use std::alloc::Global;
 
 /// What an open client is asked to do.
-#[derive(Clone, Copy, Debug, PartialEq, Eq)]
+#[derive(Clone, Copy)]
 pub(crate) enum Wish {
     /// To ask how the calls that are sent fared.
     Tick,
@@ -37,6 +37,13 @@ pub(crate) enum Wish {
     Ping(u64),
     /// To ask for so many salts.
     Salts(u32),
+}
+
+/// A value comes to a place, and what was there is dropped: what that takes is proved once, whatever the value is.
+pub(crate) fn put<T: Drop>(place: &mut Option<T>, value: T)
+    ensures { place.new ≡ Some value }
+{
+    *place = Some(value);
 }
 
 /// A client submits a call.

@@ -6,6 +6,7 @@
 
 mod client;
 mod error;
+mod fitting;
 mod given;
 mod holding;
 pub mod laws;
@@ -22,6 +23,7 @@ pub use client_core::{CallNo as CallId, CallState, Cause, SubmitFault};
 pub use draws::{ChaChaDraw, Draw, Seeded};
 pub use envelope::Refusal;
 pub use error::Error;
+pub use fitting::fits;
 pub use msg_ids::Moment;
 pub use names::SessionName;
 pub use octets::{Memory, Octets};

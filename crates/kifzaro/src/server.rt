@@ -34,7 +34,7 @@ use draws::ChaChaDraw;
 use envelope::MtSeal;
 use law_server_replay::laws::events_draw_words;
 use msg_ids::Moment;
-use octets::{Memory, Octets};
+use octets::Memory;
 use server_core::order_laws::{events_keep_order, runs_keep_order};
 use server_core::{Heard, Server as Core};
 use server_output::Out;
@@ -54,23 +54,23 @@ pub struct Server {
     server: Core<MtSeal>,
     words: Words,
     queue: Queue,
-    // The request of the first ready job, while it waits for its answer.
-    asked: Option<Octets>,
+    // Whether the request of the first ready job was handed out and waits for its answer.
+    asked: bool,
 }
 
 impl Model for Server {
-    ghost use Rattle.std.specs.Prelude.{◌≡◌, ◌<◌, IfSome, Some};
+    ghost use Rattle.std.specs.Prelude.{◌≡◌, ◌<◌, is_some, true};
     ghost use Rattle.server_core.specs.Desks.{request_at};
     ghost use Rattle.waits.specs.Jobs.{ready_count};
     ghost use Rattle.kifzaro.specs.Queues.{all_in};
-    ghost use Rattle.kifzaro.specs.Servers.{Kept};
+    ghost use Rattle.kifzaro.specs.Servers.{Kept, handed_out};
 
     ghost Value = { Kept };
 
-    ghost view = { λ server. record { server = server.server; draw = server.words; waiting = all_in server.queue; asked = server.asked } };
+    ghost view = { λ server. record { server = server.server; draw = server.words; waiting = all_in server.queue; asked = handed_out server.asked server.server.jobs } };
 
-    // A request that waits for its answer is that of the first ready job.
-    ghost invariant = { λ server. IfSome server.asked (λ asked. (0 < ready_count server.server.jobs) × (request_at 0 server.server.jobs ≡ Some asked)) };
+    // A request waits for its answer only where a job is ready.
+    ghost invariant = { λ server. server.asked ≡ true → (0 < ready_count server.server.jobs) × (is_some (request_at 0 server.server.jobs) ≡ true) };
 }
 
 impl Server {
@@ -92,7 +92,7 @@ impl Server {
             server: Core::new(alloc, seal_of(alloc, keys)?),
             words: Words::new(seed),
             queue: Queue::new(alloc),
-            asked: None,
+            asked: false,
         })
     }
 
@@ -100,7 +100,7 @@ impl Server {
     pub fn is_busy(&self) -> bool
         ensures { result ≡ is_some self.now.asked }
     {
-        self.asked.is_some()
+        self.asked
     }
 
     /// A packet came at a moment: the session that its envelope names judges what is in it, and answers. It answers the name
@@ -129,7 +129,7 @@ impl Server {
         events_draw_words::<ChaChaDraw, Given>();
         sessions_stand_later();
         is_early(now);
-        if self.is_busy() {
+        if self.asked {
             return Err(Error::Busy);
         }
         if self.queue.make_room().is_err() {
@@ -166,7 +166,7 @@ impl Server {
         events_keep_order::<ChaChaDraw>();
         events_draw_words::<ChaChaDraw, Given>();
         is_early(now);
-        if self.is_busy() {
+        if self.asked {
             return Err(Error::Busy);
         }
         if self.queue.make_room().is_err() {
@@ -200,7 +200,7 @@ impl Server {
         events_keep_order::<ChaChaDraw>();
         events_draw_words::<ChaChaDraw, Given>();
         is_early(now);
-        if self.is_busy() {
+        if self.asked {
             return Err(Error::Busy);
         }
         if self.queue.make_room().is_err() {
@@ -235,7 +235,7 @@ impl Server {
         ensures same_ring { self.new.server.seal ≡ self.old.server.seal }
     {
         events_keep_order::<ChaChaDraw>();
-        if self.is_busy() {
+        if self.asked {
             return Err(Error::Busy);
         }
         self.server.restart(alloc);
@@ -250,14 +250,14 @@ impl Server {
     }
 
     /// Hands out the next ready request, that of the job which was accepted first: [`Server::request`] lends its bytes. Whether
-    /// there is one. Until [`Server::answer`] gives its reply, the server is busy.
+    /// there is one. Until [`Server::answer`] gives its reply, the server is busy. Takes no memory.
     ///
     /// # Errors
     ///
-    /// `Busy`, one that was handed out waits for its answer; `Memory`. The server is as it was.
-    pub fn next_request(&mut self, alloc: Global) -> Result<bool, Error>
-        ensures told { TellsEvent self.old.asked result }
+    /// `Busy`, one that was handed out waits for its answer. The server is as it was.
+    pub fn next_request(&mut self) -> Result<bool, Error>
         ensures busy { is_some self.old.asked ≡ true → result ≡ Err errors.Busy }
+        ensures told { IfErr result (λ error. (error ≡ errors.Busy) × (is_some self.old.asked ≡ true)) }
         ensures there { IfOk result (λ there. there ≡ is_some self.new.asked) }
         ensures ready { (server : Rules) → Is self.old server → IfOk result (λ there. IsTrue there ↔ (0 < ready_count server.jobs)) }
         ensures first { (server : Rules) → Is self.old server → OnOk result (self.new.asked ≡ request_at 0 server.jobs) }
@@ -265,13 +265,13 @@ impl Server {
         ensures unchanged { OnErr result (self.new ≡ self.old) }
         ensures same_ring { self.new.server.seal ≡ self.old.server.seal }
     {
-        if self.is_busy() {
+        if self.asked {
             return Err(Error::Busy);
         }
-        let Some(request) = self.server.ready_request(0) else {
+        let Some(_request) = self.server.ready_request(0) else {
             return Ok(false);
         };
-        self.asked = Some(Octets::copy(alloc, request)?);
+        self.asked = true;
         Ok(true)
     }
 
@@ -280,10 +280,10 @@ impl Server {
         ensures asked { MatchOption result (self.now.asked ≡ None) (λ request. self.now.asked ≡ Some request.now) }
         ensures first { (server : Rules) → Is self.now server → IfSome result (λ request. request_at 0 server.jobs ≡ Some request.now) }
     {
-        match &self.asked {
-            Some(request) => Some(request.as_slice()),
-            None => None,
+        if !self.asked {
+            return None;
         }
+        self.server.ready_request(0)
     }
 
     /// The request that was handed out has run, and this is its reply: whole words of 4 bytes, at most 262,144 bytes. The
@@ -304,7 +304,7 @@ impl Server {
         runs_keep_order::<ChaChaDraw, Given>();
         events_draw_words::<ChaChaDraw, Given>();
         is_early(now);
-        if self.asked.is_none() {
+        if !self.asked {
             return Err(Error::NotAsked);
         }
         if !is_reply(reply) {
@@ -315,7 +315,7 @@ impl Server {
         let mut draw = self.words.draw();
         let effects = self.server.work(alloc, 0, &mut given, now, &mut draw)?;
         self.words.reach(&draw);
-        self.asked = None;
+        self.asked = false;
         self.queue.put(effects.out);
         Ok(())
     }

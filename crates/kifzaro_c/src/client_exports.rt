@@ -1,6 +1,10 @@
 //! What C calls of a client. Numbers go out through references, which are written only where the status is `OK` or the comment
 //! says so.
 
+ghost use Rattle.std.specs.Prelude.{◌≡◌};
+ghost use Rattle.call_table.specs.Kept.{shown};
+ghost use Rattle.kifzaro_c.specs.Statuses.{code_number, state_number};
+
 use crate::client_handle::{ClientHandle, boxed};
 use crate::seed::seed_of;
 use crate::status;
@@ -107,7 +111,10 @@ fn poll(alloc: Global, client: &mut Client, now: u64, room: &mut [u8]) -> Result
 }
 
 /// A number for what became of a call, and a code: that of a refusal, or why it is unknown.
-fn numbers_of(state: CallState<'_>) -> (u32, u32) {
+fn numbers_of(state: CallState<'_>) -> (u32, u32)
+    ensures state { result.0 ≡ state_number (shown state.entry) }
+    ensures code { result.1 ≡ code_number (shown state.entry) }
+{
     match state {
         CallState::Queued => (0, 0),
         CallState::Sent => (1, 0),

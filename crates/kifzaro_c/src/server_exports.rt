@@ -88,22 +88,16 @@ fn given(handed: Result<Option<usize>, Error>) -> Result<usize, Error> {
 }
 
 // The request that waits for its answer, or the next one, which waits from then on. Whether there is one.
-fn ask(alloc: Global, server: &mut Server) -> Result<bool, Error> {
+fn ask(server: &mut Server) -> Result<bool, Error> {
     if server.is_busy() {
         Ok(true)
     } else {
-        server.next_request(alloc)
+        server.next_request()
     }
 }
 
-fn tell_request(
-    alloc: Global,
-    server: &mut Server,
-    there: &mut u32,
-    room: &mut [u8],
-    len: &mut u64,
-) -> u32 {
-    match ask(alloc, server) {
+fn tell_request(server: &mut Server, there: &mut u32, room: &mut [u8], len: &mut u64) -> u32 {
+    match ask(server) {
         Ok(true) => {
             *there = 1;
             status::told_len(server.copy_request(room), len)
@@ -188,10 +182,7 @@ pub extern "C" fn kfr_server_next_request(
     room: &mut [u8],
     len: &mut u64,
 ) -> u32 {
-    handle.run(
-        alloc,
-        |server| tell_request(alloc, server, there, room, len),
-    )
+    handle.run(alloc, |server| tell_request(server, there, room, len))
 }
 
 /// The request that was handed out has run, and its reply is this one.

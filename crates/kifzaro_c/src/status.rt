@@ -1,5 +1,9 @@
 //! What a call answers.
 
+ghost use Rattle.std.specs.Prelude.{◌≡◌, ℕ, Err, IfOk, OnErr};
+ghost use Rattle.kifzaro.specs.declared.error.Error.TheVariants as errors;
+ghost use Rattle.kifzaro_c.specs.Statuses.{of_error, of_refusal, of_submit, status_of};
+
 use kifzaro::{Error, Refusal, SubmitFault};
 
 /// It is done.
@@ -51,7 +55,9 @@ pub(crate) const REFUSED_LENGTH: u32 = 22;
 pub(crate) const REFUSED_PADDING: u32 = 23;
 
 /// The status of an error.
-pub(crate) fn of(error: Error) -> u32 {
+pub(crate) fn of(error: Error) -> u32
+    ensures { result ≡ of_error error }
+{
     match error {
         Error::Memory => MEMORY,
         Error::Keys(_) | Error::LongKeys { .. } => BAD_KEYS,
@@ -71,7 +77,9 @@ pub(crate) fn of(error: Error) -> u32 {
     }
 }
 
-fn of_submit(fault: SubmitFault) -> u32 {
+fn of_submit(fault: SubmitFault) -> u32
+    ensures { result ≡ of_submit fault }
+{
     match fault {
         SubmitFault::TooLong { .. }
         | SubmitFault::NotWords { .. }
@@ -82,7 +90,9 @@ fn of_submit(fault: SubmitFault) -> u32 {
     }
 }
 
-fn of_refusal(refusal: Refusal) -> u32 {
+fn of_refusal(refusal: Refusal) -> u32
+    ensures { result ≡ of_refusal refusal }
+{
     match refusal {
         Refusal::Size { .. } => REFUSED_SIZE,
         Refusal::NoKey { .. } => REFUSED_KEY,
@@ -93,7 +103,9 @@ fn of_refusal(refusal: Refusal) -> u32 {
 }
 
 /// The status of a call that gives nothing else.
-pub(crate) fn told(given: Result<(), Error>) -> u32 {
+pub(crate) fn told(given: Result<(), Error>) -> u32
+    ensures { result ≡ status_of given }
+{
     match given {
         Ok(()) => OK,
         Err(error) => of(error),
@@ -101,7 +113,11 @@ pub(crate) fn told(given: Result<(), Error>) -> u32 {
 }
 
 /// Writes a number where there is one, and tells the status.
-pub(crate) fn tell(given: Result<u64, Error>, out: &mut u64) -> u32 {
+pub(crate) fn tell(given: Result<u64, Error>, out: &mut u64) -> u32
+    ensures status { result ≡ status_of given }
+    ensures written { IfOk given (λ number. out.new ≡ number) }
+    ensures unwritten { OnErr given (out.new ≡ out.old) }
+{
     match given {
         Ok(number) => {
             *out = number;
@@ -112,7 +128,11 @@ pub(crate) fn tell(given: Result<u64, Error>, out: &mut u64) -> u32 {
 }
 
 /// Writes how many bytes were put into room, or how many it needs, and tells the status.
-pub(crate) fn told_len(given: Result<usize, Error>, len: &mut u64) -> u32 {
+pub(crate) fn told_len(given: Result<usize, Error>, len: &mut u64) -> u32
+    ensures status { result ≡ status_of given }
+    ensures written { IfOk given (λ count. len.new ≡ count) }
+    ensures needed { (needed : ℕ) → given ≡ Err (errors.TooShort needed) → len.new ≡ needed }
+{
     match given {
         Ok(count) => {
             *len = count as u64;

@@ -13,7 +13,7 @@ use Rattle.world_rules.specs.World.{World}
 use Rattle.world_rules.specs.Once.{InOrder, Once, ran_in}
 use Rattle.world_rules.specs.Premises.{Fresh, IsByNoChance, IsOfBytes, IsSealed, IsSound}
 use Rattle.world_rules.specs.Run.{after}
-use Rattle.law_packet_parts.specs.Sizes.{KeepsSizes}
+use Rattle.envelope.specs.Sizes.{KeepsSizes}
 use Rattle.law_server.specs.Order.{AreOrdered}
 use Rattle.law_packets.specs.Lawful.{AreLawfulPackets, IsSteady, is_held}
 use Rattle.law_once.specs.Served.{IsServed}

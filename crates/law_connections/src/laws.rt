@@ -14,7 +14,7 @@ ghost use Rattle.world_rules.specs.World.{World, begins, counted};
 ghost use Rattle.world_rules.specs.Run.{after};
 ghost use Rattle.world_rules.specs.Premises.{Fresh, IsByNoChance, IsOfBytes, IsSealed, IsSound, OpensOnly};
 ghost use Rattle.world_rules.specs.Once.{InOrder, Once};
-ghost use Rattle.law_packet_parts.specs.Sizes.{KeepsSizes};
+ghost use Rattle.envelope.specs.Sizes.{KeepsSizes};
 ghost use Rattle.law_once.specs.Served.{IsServed};
 ghost use Rattle.law_once.specs.Standing.{HasMoves};
 ghost use Rattle.law_connections.specs.Computed.{are_new, is_made};
@@ -105,7 +105,7 @@ pub fn a_joint_run()
     ensures in_order { InOrder (joint_of shown.setting 0 shown.lossy).world }
 {
     envelope::laws::opens_what_it_sealed::<ClearSeal>();
-    law_packet_parts::laws::locks_keep_sizes();
+    envelope::laws::locks_keep_sizes();
     ring_rules::laws::packets_open_as_worked_out();
     law_packets::laws::registers_give_replies();
     octets::laws::bytes_stay_bytes();

@@ -9,7 +9,7 @@ use Rattle.sched_text.specs.declared.event.Event.{Event}
 use Rattle.sched_text.specs.declared.event.Event.TheVariants as line
 use Rattle.server_rules.specs.Event.{Entry}
 use Rattle.server_rules.specs.Server.{name_of}
-use Rattle.sess_replay.specs.Replay.{run_interrupted}
+use Rattle.sess_journal.specs.Replay.{run_interrupted}
 use Rattle.world_rules.specs.Setting.{Setting}
 use Rattle.world_rules.specs.World.{Entered, World}
 use Rattle.world_rules.specs.Once.{InOrder}

@@ -5,7 +5,8 @@ use Rattle.std.proofs.lemmas.Bool.{cases_Bool}
 use Rattle.std.proofs.lemmas.List.{reverse-append}
 use Rattle.regs_service.specs.Served.{Ran, Served, Step, replies_of, replies_to, requests_of}
 use Rattle.server_rules.specs.Event.{Entry}
-use Rattle.server_rules.specs.Server.{Name, Session, is_good}
+use Rattle.server_rules.specs.Server.{Name, Session}
+use Rattle.service_tl.specs.Results.{is_good}
 use Rattle.world_rules.specs.World.{Entered}
 use Rattle.world_rules.specs.Once.{ran_in}
 use Rattle.law_moves.specs.Table as moves

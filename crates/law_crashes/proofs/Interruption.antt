@@ -5,8 +5,8 @@ use Rattle.std.specs.List.{list_all}
 use Rattle.tl_codec.specs.Spelling.{spelling}
 use Rattle.octets.specs.Bytes.{IsBytes}
 use Rattle.regs_service.specs.Served.{IsReply}
-use Rattle.server_rules.specs.Server.{is_good}
-use Rattle.sess_replay.specs.Replay.{run_interrupted}
+use Rattle.service_tl.specs.Results.{is_good}
+use Rattle.sess_journal.specs.Replay.{run_interrupted}
 
 both : (one other : Bool) → (one && other) ≡ true → (one ≡ true) × (other ≡ true)
 both true other is = (refl, is)

@@ -11,7 +11,7 @@ use Rattle.msg_ids.specs.Moments.{latest_moment, moment_of}
 use Rattle.sess_records.specs.declared.records.Event.{Event}
 use Rattle.sess_records.specs.declared.records.Event.TheVariants as recorded
 use Rattle.sess_records.specs.declared.records.Record.{Record}
-use Rattle.sess_replay.specs.Replay.{Basis, LeadsTo, after_interruption, after_reply, always, reached_by, run_interrupted, setting_at, unran}
+use Rattle.sess_journal.specs.Replay.{Basis, LeadsTo, after_interruption, after_reply, always, reached_by, run_interrupted, setting_at, unran}
 use Rattle.server_core.specs.Packets.{brought_in}
 use Rattle.server_rules.specs.Answer.{Answer, after_attach, after_packet, after_run, after_tick, begun, ended, is_spent}
 use Rattle.server_rules.specs.Event.{Setting as ServerSetting, lost}

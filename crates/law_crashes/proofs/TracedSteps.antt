@@ -8,7 +8,7 @@ use Rattle.msg_ids.specs.Moments.{latest_moment, moment_of}
 use Rattle.sess_journal.specs.Keeping.{ending_by}
 use Rattle.sess_records.specs.declared.records.Event.TheVariants as recorded
 use Rattle.sess_records.specs.declared.records.Record.{Record}
-use Rattle.sess_replay.specs.Replay.{Basis, at_first}
+use Rattle.sess_journal.specs.Replay.{Basis, at_first}
 use Rattle.server_rules.specs.Answer.{after_attach, after_tick}
 use Rattle.server_rules.specs.Server.{Name, Server}
 use Rattle.waits.specs.declared.job.Job.{Job}

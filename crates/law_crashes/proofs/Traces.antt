@@ -12,7 +12,7 @@ use Rattle.msg_ids.specs.Moments.{latest_moment, moment_of}
 use Rattle.ring_rules.specs.Binding.{keys_of}
 use Rattle.sess_records.specs.declared.records.Event.TheVariants as recorded
 use Rattle.sess_records.specs.declared.records.Record.{Record}
-use Rattle.sess_replay.specs.Replay.{Basis, LeadsTo, Plays, Reached, Replays, after_reply, at_first, reached_by, setting_at}
+use Rattle.sess_journal.specs.Replay.{Basis, LeadsTo, Plays, Reached, Replays, after_reply, at_first, reached_by, setting_at}
 use Rattle.server_rules.specs.Answer.{Answer, after_attach, after_packet, after_tick, is_spent}
 use Rattle.server_rules.specs.Event.{Envelope, Setting as ServerSetting}
 use Rattle.server_rules.specs.Server.{Name, Server, Session}

@@ -4,7 +4,7 @@ use Rattle.auth_keys.specs.declared.ring.RingKey.{RingKey}
 use Rattle.envelope.specs.Packet.{Lock}
 use Rattle.ring_rules.specs.Binding.{keys_of}
 use Rattle.server_session.specs.Says.{setting_of}
-use Rattle.sess_replay.specs.Replay.{Basis, Reached, Replays, at_first}
+use Rattle.sess_journal.specs.Replay.{Basis, Reached, Replays, at_first}
 use Rattle.world_rules.specs.Setting.{Setting, at_server}
 use Rattle.law_crashes.specs.Crashes.{Living}
 

@@ -5,7 +5,7 @@ use Rattle.sched_text.specs.declared.event.Event.TheVariants as line
 use Rattle.sess_records.specs.declared.records.Event.{Event}
 use Rattle.sess_records.specs.declared.records.Event.TheVariants as recorded
 use Rattle.sess_records.specs.declared.records.Record.{Record}
-use Rattle.sess_replay.specs.Replay.{run_interrupted}
+use Rattle.sess_journal.specs.Replay.{run_interrupted}
 use Rattle.server_rules.specs.Event.{Entry}
 use Rattle.server_rules.specs.Events as events
 use Rattle.server_rules.specs.Server.{Name}

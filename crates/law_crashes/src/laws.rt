@@ -8,7 +8,7 @@ ghost use Rattle.envelope.specs.Packet.{Lock};
 ghost use Rattle.world_rules.specs.Setting.{Setting};
 ghost use Rattle.world_rules.specs.Premises.{Fresh, IsSealed, IsSound};
 ghost use Rattle.world_rules.specs.Once.{InOrder, Once};
-ghost use Rattle.law_packet_parts.specs.Sizes.{KeepsSizes};
+ghost use Rattle.envelope.specs.Sizes.{KeepsSizes};
 ghost use Rattle.law_once.specs.Standing.{HasMoves};
 ghost use Rattle.law_crashes.specs.Crashes.{Crashes, Step, created, goes_on, living_of};
 ghost use Rattle.law_crashes.specs.Reached.{IsOpened, IsReached, SeesRing, basis_of};
@@ -67,7 +67,7 @@ pub fn records_lead_to_the_server<D: Seeded, V>()
     law_once::laws::worlds_only_grow::<D, V>();
     law_once::laws::starts_are_served::<D, V>();
     draws::laws::seeded_draws_go_on::<D>();
-    sess_replay::laws::records_lead_to_one_server::<D>();
+    sess_journal::laws::records_lead_to_one_server::<D>();
     law_server_replay::laws::events_draw_words::<D, Octets>();
     law_server_replay::laws::events_leave_room::<D, Octets>();
     law_server_replay::laws::quiet_events_change_nothing::<D>();

@@ -16,7 +16,7 @@ use Rattle.call_table.specs.Table.{Call, Name}
 use Rattle.call_table.specs.declared.call.Cause.{Cause}
 use Rattle.call_table.specs.declared.call.Cause.TheVariants as cause
 use Rattle.client_rules.specs.Client.{Client, calls_of}
-use Rattle.law_client_moves.specs.Clients.{AreNamesThere, IsCallThere, IsNameThere, StandsAs, StandsThere, client_there}
+use Rattle.law_client.specs.Clients.{AreNamesThere, IsCallThere, IsNameThere, StandsAs, StandsThere, client_there}
 use Rattle.world_rules.specs.World.{Entered, Seat, World, lives, owns}
 use Rattle.world_rules.specs.Once.{HasCause, IsCallOf, IsCause, WasAsked, WasForgotten, lives_under, of_name, without_first}
 use Rattle.law_server_moves.specs.Servers.{HasForgotten, IsEntered, IsLost, IsMade, IsOneOf, IsStanding}

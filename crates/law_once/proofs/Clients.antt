@@ -24,11 +24,12 @@ use Rattle.client_rules.specs.Events as wishes
 use Rattle.client_rules.specs.Events.{renewed, takes, unless_fault}
 use Rattle.client_rules.specs.Flush.{Answer, Nothing, Sends, Spent, flush}
 use Rattle.client_rules.specs.Sending as client
-use Rattle.client_rules.specs.Taking.{is_for, is_odd, take}
-use Rattle.law_client_moves.specs.Clients.{IsNobody, StandsAs}
-use Rattle.law_client_moves.specs.Leading.{Leads}
-use Rattle.law_client_moves.specs.Packets.{packet_items}
-use Rattle.law_client_moves.specs.Sent.{IsAnswerSent}
+use Rattle.client_rules.specs.Taking.{is_for, take}
+use Rattle.msg_ids.specs.Counters.{is_odd}
+use Rattle.law_client.specs.Clients.{IsNobody, StandsAs}
+use Rattle.law_client.specs.Leading.{Leads}
+use Rattle.law_client.specs.Packets.{packet_items}
+use Rattle.law_client.specs.Sent.{IsAnswerSent}
 use Rattle.world_rules.specs.Setting.{Setting, at_client}
 use Rattle.world_rules.specs.World.{Packet, Seat, World, changed_from_0, lives}
 use Rattle.world_rules.specs.Ends.{acts, flushes, seat_changed, sent_up}

@@ -8,7 +8,7 @@ use Rattle.law_moves.specs.Table as moves
 use Rattle.law_moves.specs.World.{Owns, World as Moved, no_client}
 use Rattle.law_moves.specs.Lawful.{IsNewSession}
 use Rattle.client_rules.specs.Client.{Client}
-use Rattle.law_client_moves.specs.Clients.{client_there}
+use Rattle.law_client.specs.Clients.{client_there}
 use Rattle.world_rules.specs.World.{Seat, World, changed_from_0, lives}
 use Rattle.world_rules.specs.Premises.{drawn_for_session, names_drawn, sessions_drawn}
 use Rattle.law_once.specs.Standing.{AreSeated, IsSeated}

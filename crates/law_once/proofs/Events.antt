@@ -9,13 +9,13 @@ use Rattle.envelope.specs.Lawful.{OpensWhatItSealed}
 use Rattle.envelope.specs.Packet.{IsEnvelope, Lock}
 use Rattle.tl_codec.specs.Standard.{bytes_max}
 use Rattle.law_moves.specs.Table as moves
-use Rattle.law_client_moves.specs.Sent.{IsPacketSent}
+use Rattle.law_client.specs.Sent.{IsPacketSent}
 use Rattle.law_once.specs.Small.{Fits}
 use Rattle.sched_text.specs.declared.event.Event.{Event}
 use Rattle.sched_text.specs.declared.event.Event.TheVariants as line
 use Rattle.server_rules.specs.Events.{Attach, Course, Event as ServerEvent, Loss, after_event}
 use Rattle.law_server.specs.Order.{AreOrdered}
-use Rattle.law_server_sizes.specs.Small.{IsSmallEnvelope}
+use Rattle.law_server_bounds.specs.Small.{IsSmallEnvelope}
 use Rattle.law_moves.specs.World.{World as Moved}
 use Rattle.world_rules.specs.Setting.{Setting, as_heard, at_server}
 use Rattle.world_rules.specs.World.{Packet, Seat, World, bytes_of, counted, server_now}

@@ -11,7 +11,7 @@ use Rattle.server_rules.specs.Event.{Setting, Speaker}
 use Rattle.server_rules.specs.Speaking.{needs_salts}
 use Rattle.server_rules.specs.Sending.{seals, sends}
 use Rattle.world_rules.specs.Premises.{drawn_for_session}
-use Rattle.law_server_lives.specs.Drawing.{DrawsSalts}
+use Rattle.law_server.specs.Drawing.{DrawsSalts}
 use Rattle.law_once.proofs.Counting.{count, count_append}
 
 words : List Row → List ℕ

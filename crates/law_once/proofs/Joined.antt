@@ -14,7 +14,7 @@ use Rattle.law_moves.specs.Lawful.{IsNewSession}
 use Rattle.law_moves.specs.Reached.{AreLawful, after_all}
 use Rattle.server_rules.specs.Server.{Session}
 use Rattle.client_rules.specs.Client.{Client, Temporary, fresh_client, temporary_of}
-use Rattle.law_client_moves.specs.Clients.{IsNobody, StandsAs}
+use Rattle.law_client.specs.Clients.{IsNobody, StandsAs}
 use Rattle.world_rules.specs.Setting.{Setting}
 use Rattle.world_rules.specs.World.{Seat, World, changed_at, changed_from_0, lives}
 use Rattle.world_rules.specs.Premises.{drawn_for_session, names_drawn, sessions_drawn}

@@ -7,8 +7,8 @@ use Rattle.law_moves.specs.Move.{Move}
 use Rattle.law_moves.specs.Extends.{Extends, IsOfClient, LeavesCalls, LeavesClients, LeavesSubmitted}
 use Rattle.law_moves.specs.Reached.{AreLawful, Reached, after_all}
 use Rattle.client_rules.specs.Client.{Client}
-use Rattle.law_client_moves.specs.Clients.{StandsAs}
-use Rattle.law_client_moves.specs.Leading.{IsOfServers}
+use Rattle.law_client.specs.Clients.{StandsAs}
+use Rattle.law_client.specs.Leading.{IsOfServers}
 
 -- of moves
 pub record Moving : Type 0 where

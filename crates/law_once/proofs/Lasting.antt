@@ -9,8 +9,8 @@ use Rattle.envelope.specs.declared.parts.Envelope.{Envelope}
 use Rattle.law_moves.specs.Table as moves
 use Rattle.law_moves.specs.World.{Owns, World}
 use Rattle.law_moves.specs.Extends.{Extends}
-use Rattle.law_client_moves.specs.Clients.{StandsAs}
-use Rattle.law_client_moves.specs.Sent.{IsPacketSent, IsSent, WasSent}
+use Rattle.law_client.specs.Clients.{StandsAs}
+use Rattle.law_client.specs.Sent.{IsPacketSent, IsSent, WasSent}
 use Rattle.client_rules.specs.Taking.{message_in}
 use Rattle.world_rules.specs.World.{Packet, Seat}
 use Rattle.law_once.specs.Standing.{AreSeated, IsBagged, IsDown, IsKeyOf, IsSeated, IsThere, key_at}

@@ -14,7 +14,7 @@ use Rattle.server_rules.specs.Speaking.{needs_salts}
 use Rattle.server_rules.specs.Waiting.{gives_up}
 use Rattle.server_rules.specs.Sending.{padding_bytes, seals, sends}
 use Rattle.server_rules.specs.Answer.{finishes}
-use Rattle.law_server_lives.specs.Drawing.{DrawsSalts}
+use Rattle.law_server.specs.Drawing.{DrawsSalts}
 use Rattle.law_once.proofs.Counting.{count, count_append}
 use Rattle.law_once.proofs.Grown.{drawn}
 

@@ -25,7 +25,7 @@ use Rattle.server_rules.specs.Sending.{all_sent, messages_by, names_in, seals, s
 use Rattle.server_rules.specs.Answer.{after_run, attaches, begun, finishes, hears, hears_by, is_spent, message_in, messages_judged, name_in, opens, runs, takes, takes_by, ticks, with_place, without_first, without_spent}
 use Rattle.server_rules.specs.Events.{Attach, Course, Loss, Packet as Comes, Restart, Tick, Work, setting_at, worked}
 use Rattle.law_server.specs.Speech.{SaidFor}
-use Rattle.law_server_lives.specs.Drawing.{DrawsSalts}
+use Rattle.law_server.specs.Drawing.{DrawsSalts}
 use Rattle.world_rules.specs.Setting.{Setting as WorldSetting, at_server}
 use Rattle.world_rules.specs.World.{World, has_named, lives, lost_in, missing}
 use Rattle.world_rules.specs.Ends.{course_in, said, said_by_work, serves}

@@ -10,8 +10,8 @@ use Rattle.law_moves.specs.Move.Move.{Own, Send, Make, Draw, Judge, Forget, Answ
 use Rattle.law_moves.specs.After.{after}
 use Rattle.law_moves.specs.Extends.{IsOfClient, IsOfServer, LeavesCalls, LeavesClients, LeavesSubmitted}
 use Rattle.law_moves.specs.Reached.{after_all}
-use Rattle.law_client_moves.specs.Clients.{IsNobody}
-use Rattle.law_client_moves.specs.Leading.{IsOfServers}
+use Rattle.law_client.specs.Clients.{IsNobody}
+use Rattle.law_client.specs.Leading.{IsOfServers}
 use Rattle.law_once.proofs.Known.{Moving}
 
 just : (P : Move → Type 0) (move : Move) → P move → All P (move ∷ [])

@@ -11,7 +11,7 @@ use Rattle.call_table.specs.Table as table
 use Rattle.call_table.specs.declared.call.Cause.{Cause}
 use Rattle.call_table.specs.declared.call.Cause.TheVariants as cause
 use Rattle.client_rules.specs.Client.{Client}
-use Rattle.law_client_moves.specs.Clients.{cause_there, state_there}
+use Rattle.law_client.specs.Clients.{cause_there, state_there}
 use Rattle.world_rules.specs.Setting.{Setting}
 use Rattle.world_rules.specs.World.{World, lives}
 use Rattle.world_rules.specs.Once.{HasCause, HasNoEntry, IsCallOf, Once, RanOnce, entries_of, entries_under, older_names, ran_in}

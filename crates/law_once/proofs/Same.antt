@@ -20,7 +20,8 @@ use Rattle.client_rules.specs.Learning.{ended, learn, learnt_max, learns, with_c
 use Rattle.client_rules.specs.Sending.{Setting, binding_body}
 use Rattle.client_rules.specs.Filling.{Filling, Goes, Never, Turn, Waits, asks_binding, asks_states, body_behind, changes, empty, fills, goes, is_needed, number_of, outstanding, says, says_acks, says_binding, says_call, says_call_at, says_destroyed, says_drop, says_drop_of, says_ping, says_resent, says_salts, says_states, says_told, sends_call, takes_turn, turn_of, undropped}
 use Rattle.client_rules.specs.Flush.{Answer, Flushed, Marked, Nothing, Sends, Spent, binding_alone, filled, first_marked, flush, has_any, remembers, remembers_lone, room_min, sends, unless_binding, unless_call}
-use Rattle.client_rules.specs.Taking.{Notice, acknowledges, alone_call, alone_number, answered_by, asks_answer, goes_again, has_asked, is_for, is_odd, message_in, messages_of, noticed_by, packet_noticed, row, take, takes_message, takes_over, told_of, told_state, told_states, with_notice_clock, with_notice_salt, without_idle_wish}
+use Rattle.client_rules.specs.Taking.{Notice, acknowledges, alone_call, alone_number, answered_by, asks_answer, goes_again, has_asked, is_for, message_in, messages_of, noticed_by, packet_noticed, row, take, takes_message, takes_over, told_of, told_state, told_states, with_notice_clock, with_notice_salt, without_idle_wish}
+use Rattle.msg_ids.specs.Counters.{is_odd}
 use Rattle.client_rules.specs.Events.{takes, unless_fault}
 use Rattle.client_rules.specs.Asking.{submit_fault, submitted}
 

@@ -10,7 +10,7 @@ use Rattle.service_tl.specs.declared.lists.Message.{Message}
 use Rattle.containers.specs.Container.{IsContainer, begins_container}
 use Rattle.envelope.specs.Lawful.{OpensWhatItSealed}
 use Rattle.envelope.specs.Packet.{Lock}
-use Rattle.law_client_moves.specs.Packets.{packet_items}
+use Rattle.law_client.specs.Packets.{packet_items}
 use Rattle.envelope.specs.declared.parts.Dir.{Dir}
 use Rattle.envelope.specs.declared.parts.Dir.TheVariants.{Up, Down}
 use Rattle.envelope.specs.declared.parts.Envelope.{Envelope}
@@ -18,12 +18,12 @@ use Rattle.server_rules.specs.Server.{Name, Session}
 use Rattle.server_rules.specs.Event.{Envelope as Heard, Sent}
 use Rattle.server_rules.specs.Events.{Attach, Course, Event as ServerEvent, Loss, Packet as Comes, Restart, Tick, Work, after_event}
 use Rattle.law_server.specs.Order.{AreOrdered}
-use Rattle.law_server_sizes.specs.Small.{AreSmall as AreKeptSmall, DrawsWords, GivesReplies, HasSmallEnvelope, IsSmallEnvelope, IsWhole, IsWholeSent}
+use Rattle.law_server_bounds.specs.Small.{AreSmall as AreKeptSmall, DrawsWords, GivesReplies, HasSmallEnvelope, IsSmallEnvelope, IsWhole, IsWholeSent}
 use Rattle.law_moves.specs.World.{Owns, World as Moved}
 use Rattle.law_moves.specs.Move.{Move}
 use Rattle.law_moves.specs.Extends.{Extends}
 use Rattle.law_moves.specs.Reached.{AreLawful, Reached, after_all}
-use Rattle.law_client_moves.specs.Leading.{IsOfServers}
+use Rattle.law_client.specs.Leading.{IsOfServers}
 use Rattle.world_rules.specs.Setting.{Setting, as_heard, at_server}
 use Rattle.world_rules.specs.World.{Packet, Seat, World, bytes_of, lives, server_now}
 use Rattle.world_rules.specs.Ends.{comes_up, course_in, sent_down, serves}

@@ -6,15 +6,15 @@ use Rattle.envelope.specs.declared.parts.Dir.{Dir}
 use Rattle.envelope.specs.declared.parts.Dir.TheVariants.{Up, Down}
 use Rattle.envelope.specs.declared.parts.Envelope.{Envelope}
 use Rattle.law_server.specs.Order.{AreOrdered}
-use Rattle.law_server_sizes.specs.Small.{AreSmall as AreKeptSmall}
+use Rattle.law_server_bounds.specs.Small.{AreSmall as AreKeptSmall}
 use Rattle.law_moves.specs.Table.Status.{Unmade}
 use Rattle.law_moves.specs.World as moves
 use Rattle.law_moves.specs.World.{Owns}
 use Rattle.law_moves.specs.Move.{Move}
 use Rattle.law_moves.specs.Reached.{AreLawful, Reached, after_all}
-use Rattle.law_client_moves.specs.Clients.{IsNobody, StandsAs}
-use Rattle.law_client_moves.specs.Packets.{packet_items}
-use Rattle.law_client_moves.specs.Sent.{IsPacketSent}
+use Rattle.law_client.specs.Clients.{IsNobody, StandsAs}
+use Rattle.law_client.specs.Packets.{packet_items}
+use Rattle.law_client.specs.Sent.{IsPacketSent}
 use Rattle.world_rules.specs.World.{Packet, Seat, World, lives}
 use Rattle.law_server_moves.specs.Worlds.{StandsIn as AreServersIn}
 

@@ -17,7 +17,7 @@ ghost use Rattle.world_rules.specs.World.{Packet, World, begins, bytes_of};
 ghost use Rattle.world_rules.specs.Premises.{Fresh, IsByNoChance, IsOfBytes, IsSealed, IsSound, NoChance, OpensOnly, names_drawn};
 ghost use Rattle.world_rules.specs.Once.{Once, ran_in};
 ghost use Rattle.world_rules.specs.Run.{after, run_of, run_of_any};
-ghost use Rattle.law_packet_parts.specs.Sizes.{KeepsSizes};
+ghost use Rattle.envelope.specs.Sizes.{KeepsSizes};
 ghost use Rattle.law_packets.specs.Lawful.{AreLawfulPackets, IsSealedPacket};
 ghost use Rattle.server_rules.specs.Events.{Attach};
 ghost use Rattle.server_rules.specs.Server.{Name};
@@ -29,7 +29,7 @@ ghost use Rattle.law_once.specs.Standing.{HasMoves, MovesOn, WorldStands};
 ghost use Rattle.law_once.specs.Words.{AreDrawn, HavePlaces, given_step};
 
 use draws::{Draw, StepDraw};
-use law_client_moves::laws::{
+use law_client::laws::{
     clients_flush, clients_hear, clients_join, clients_renew_and_end, clients_submit,
     others_stand_still, wishes_are_no_moves,
 };
@@ -83,7 +83,7 @@ pub fn worlds_only_grow<D: Draw, V>()
     ensures packets { (lock : Lock) (ring : List RingKey) (setting : Setting D V) (world : World D V) (event : Event)
         → AreLawfulPackets lock ring setting (after setting world event) → AreLawfulPackets lock ring setting world }
 {
-    law_server_lives::laws::sessions_draw_salts::<D>();
+    law_server::lives::sessions_draw_salts::<D>();
     law_server::laws::sessions_speak::<D>();
     law_server::laws::sessions_speak_for_themselves::<D>();
 }
@@ -127,10 +127,10 @@ pub fn worlds_are_moves<D: Draw, V>()
     packets_of_worlds_are_moves::<D, V>();
     packets_sent_are_up();
     packets_are_read_as_they_went_out();
-    law_server_sizes::laws::sizes_stay_small::<D, V>();
-    law_server_sizes::laws::packets_are_whole::<D, V>();
+    law_server_bounds::sizes::sizes_stay_small::<D, V>();
+    law_server_bounds::sizes::packets_are_whole::<D, V>();
     law_server::laws::servers_stay_in_order::<D, V>();
-    law_server_lives::laws::sessions_draw_salts::<D>();
+    law_server::lives::sessions_draw_salts::<D>();
     law_server::laws::sessions_speak::<D>();
     law_server::laws::sessions_speak_for_themselves::<D>();
     packets_of_worlds_are_lawful::<D, V>();
@@ -170,7 +170,7 @@ pub fn names_are_words_drawn<D: Draw, V>()
         → All (λ word. word ≢ 0) (next_words setting.step n draw) → AllPairs (λ word other. word ≢ other) (next_words setting.step n draw) → Fresh world }
 {
     law_server::laws::servers_stay_in_order::<D, V>();
-    law_server_lives::laws::sessions_draw_salts::<D>();
+    law_server::lives::sessions_draw_salts::<D>();
     law_server::laws::sessions_speak::<D>();
     law_server::laws::sessions_speak_for_themselves::<D>();
 }

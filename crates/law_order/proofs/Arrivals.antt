@@ -1,5 +1,5 @@
 -- What every event of a world brings to its server, and what it leaves in order.
-use Rattle.std.proofs.Common.{◌≡◌, ◌∙◌, ℕ, zero, suc, false, not, Option, Some, None, List, refl, sym, ap}
+use Rattle.std.proofs.Common.{◌≡◌, ◌∙◌, ℕ, zero, suc, false, not, Option, Some, None, List, sym, ap}
 use Rattle.std.specs.Prelude.{is_some}
 use Rattle.std.specs.List.{Contains}
 use Rattle.auth_keys.specs.declared.ring.RingKey.{RingKey}

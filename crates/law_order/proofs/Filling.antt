@@ -19,12 +19,13 @@ use Rattle.call_table.specs.Table.{Call, Name, State, at, call_no, changed_at, f
 use Rattle.call_table.specs.Table as table
 use Rattle.client_rules.specs.Client.{Asked, Bound, Client, Binding, Held, Needed, Refused, States, Temporary, after_message, at_moment, calls_of, is_open, numbered, with_call, time_of}
 use Rattle.client_rules.specs.Sending.{Setting, binding_body, inner_of, packet_of}
-use Rattle.client_rules.specs.Filling.{Filling, Goes, Never, Turn, Waits, asks_binding, asks_states, body_behind, changes, empty, fills, goes, is_good, inserted, is_needed, living_number, number_of, numbers_max, outstanding, says, says_acks, says_binding, says_call, says_call_at, says_destroyed, says_drop, says_drop_of, says_ping, says_resent, says_salts, says_states, says_told, sends_call, takes_turn, turn_after, turn_behind, turn_by, turn_of, turn_under, turn_with, undropped}
+use Rattle.client_rules.specs.Filling.{Filling, Goes, Never, Turn, Waits, asks_binding, asks_states, body_behind, changes, empty, fills, goes, inserted, is_needed, living_number, number_of, numbers_max, outstanding, says, says_acks, says_binding, says_call, says_call_at, says_destroyed, says_drop, says_drop_of, says_ping, says_resent, says_salts, says_states, says_told, sends_call, takes_turn, turn_after, turn_behind, turn_by, turn_of, turn_under, turn_with, undropped}
+use Rattle.service_tl.specs.Results.{is_good}
 use Rattle.client_rules.specs.Flush.{Marked, Flushed, asked_alone, binding_alone, filled, first_marked, flush, gone_again, has_any, marked_at, message_behind, remembers, remembers_lone, room_min, sends, unless_binding, unless_call}
 use Rattle.law_order.specs.Behind.{Last, LivesIn, WentBehind}
 use Rattle.law_order.specs.Going.{IsAnswerFrom, IsAskedBy, IsFrom, IsOfCall, IsPacketFrom, IsReady}
-use Rattle.law_client_moves.specs.Clients.{IsShort}
-use Rattle.law_client_moves.specs.Sent.{Asks, IsBindingCall, IsSaidAside}
+use Rattle.law_client.specs.Clients.{IsShort}
+use Rattle.law_client.specs.Sent.{Asks, IsBindingCall, IsSaidAside}
 use Rattle.tl_codec.specs.Standard.{longs_max}
 use Rattle.law_order.proofs.Following.{AreKept, Base, again-follows, changed-last, changed-turn, flagged-follows, nothing-last, queued-open, raised, raised-lives, sent-follows, settled-follows}
 use Rattle.law_order.proofs.Lists.{all-append, all-weaker, here, none-some, some-same, true-false}

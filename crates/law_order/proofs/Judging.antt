@@ -12,16 +12,18 @@ use Rattle.id_window.specs.declared.mark.Mark.{Mark}
 use Rattle.id_window.specs.declared.mark.Mark.TheVariants.{Noticed as MarkNoticed, Service, Container as MarkContainer, Waiting, Replied, Acked, Dropped}
 use Rattle.id_window.specs.declared.cross.Cross.{Cross}
 use Rattle.id_window.specs.declared.cross.Cross.TheVariants.{None as Apart, Low, High}
-use Rattle.id_window.specs.Crossing.{is_odd}
+use Rattle.msg_ids.specs.Counters.{is_odd}
 use Rattle.id_window.specs.Marks.{Marks, mark_of}
 use Rattle.id_window.specs.History.{AcceptedCall, AcceptedContainer, AcceptedOther, FirstJudgement, History, Outcome, Refused, crosses, floor, found, is_kept}
 use Rattle.inbox.specs.declared.judged.Judgement.{Judgement}
 use Rattle.inbox.specs.declared.judged.Verdict.{Verdict}
 use Rattle.inbox.specs.declared.judged.Verdict.TheVariants.{Accepted, Again, Noticed}
-use Rattle.inbox.specs.Kinds.{begins_acknowledgement, begins_call, constructor_of, item_told, kind_among, kind_beginning, kind_of}
+use Rattle.inbox.specs.Kinds.{begins_acknowledgement, begins_call, item_told, kind_among, kind_beginning, kind_of}
+use Rattle.service_tl.specs.Results.{constructor_of}
 use Rattle.inbox.specs.Refusals.{Way, InContainer, InEnvelope, by_body, by_envelope, by_neighbours, by_number, by_parity, is_valid_salt, needs_even, needs_odd, refusal, second_of}
 use Rattle.inbox.specs.Judging.{Session as Remembered, first_mark, inner_judgements, inner_session, is_container, is_recorded, is_uncontained, judge, judged_session, judgements, outcome_of, recorded, remembered as after_judging, session_after, unfolded, verdict_by}
-use Rattle.server_rules.specs.Server.{Fate, IsKept, Name, Reply, WasAcked, WasDropped, answered_mark, is_good, mark_after, mark_by, marks_of, reply_to}
+use Rattle.server_rules.specs.Server.{Fate, IsKept, Name, Reply, WasAcked, WasDropped, answered_mark, mark_after, mark_by, marks_of, reply_to}
+use Rattle.service_tl.specs.Results.{is_good}
 use Rattle.law_order.specs.Apart.{IsJudgementOf, IsOfKind, IsOtherCode, IsOutcomeOf, Kinds}
 use Rattle.law_order.proofs.Lists.{all-append, all-map, none-some, some-same, true-false}
 

@@ -15,7 +15,7 @@ use Rattle.client_rules.specs.Events as wishes
 use Rattle.client_rules.specs.Flush.{Answer, Nothing, Sends, Spent, flush}
 use Rattle.law_moves.specs.World.{World as Moved}
 use Rattle.law_moves.specs.Table as moves
-use Rattle.law_client_moves.specs.Clients.{IsAskedThere, StandsAs}
+use Rattle.law_client.specs.Clients.{IsAskedThere, StandsAs}
 use Rattle.law_order.specs.After.{AreInTurn, IsEventFor, IsPacketFor, Pair}
 use Rattle.law_order.specs.Behind.{KeepsTurn, Last}
 use Rattle.law_order.specs.Going.{IsAnswerFrom, IsAskedBy, IsPacketFrom, IsReady}

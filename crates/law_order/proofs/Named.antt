@@ -7,7 +7,7 @@ use Rattle.law_moves.specs.World.{World as Moved, IsName}
 use Rattle.law_moves.specs.Reached.{Reached}
 use Rattle.call_table.specs.Table.{Call, Name}
 use Rattle.client_rules.specs.Client.{Client, calls_of}
-use Rattle.law_client_moves.specs.Clients.{AreNamesThere, IsCallThere, StandsAs, StandsThere}
+use Rattle.law_client.specs.Clients.{AreNamesThere, IsCallThere, StandsAs, StandsThere}
 use Rattle.world_rules.specs.World.{Seat, World}
 use Rattle.law_once.specs.Standing.{IsSeated, WorldStands}
 use Rattle.law_order.proofs.Lists.{first_or, here, later, none-some, some-same}

@@ -15,7 +15,8 @@ use Rattle.call_table.specs.Table.{Call, inner_of, living_name, owner, settled}
 use Rattle.client_rules.specs.Client.{Binding, Bound, Client, Held, Needed, Refused, StateRequest, Temporary, at_moment, bound_so, calls_of, is_open, with_binding}
 use Rattle.client_rules.specs.Asking.{alone}
 use Rattle.client_rules.specs.Learning.{each_becomes, ended, fate_at_end, fate_learning, learn, learnt_max, learns, settled_if, with_clock}
-use Rattle.client_rules.specs.Taking.{Notice, acknowledges, alone_among, alone_call, alone_number, answered_by, asks_answer, becomes, binding_answered, binding_noticed, fate_noticed, goes_again, has_asked, is_asked_by, is_for, is_odd, message_in, messages_of, noticed, noticed_by, packet_noticed, row, take, takes_message, takes_over, told_of, told_state, told_states, with_notice_clock, with_notice_salt, without_idle_wish}
+use Rattle.client_rules.specs.Taking.{Notice, acknowledges, alone_among, alone_call, alone_number, answered_by, asks_answer, becomes, binding_answered, binding_noticed, fate_noticed, goes_again, has_asked, is_asked_by, is_for, message_in, messages_of, noticed, noticed_by, packet_noticed, row, take, takes_message, takes_over, told_of, told_state, told_states, with_notice_clock, with_notice_salt, without_idle_wish}
+use Rattle.msg_ids.specs.Counters.{is_odd}
 use Rattle.law_order.specs.Given.{IsAskedAmong, LivesAmong}
 use Rattle.law_order.proofs.Kept.{Has, Line, changed-given, mapped-given, settled-lives}
 

@@ -1,20 +1,16 @@
 -- Each event of a world keeps calls in order.
-use Rattle.std.proofs.Common.{◌≡◌, ◌∙◌, ◌<◌, ◌-◌, ◌==◌, zero, suc, ℕ, Bool, true, false, cond, Option, Some, None, List, [], ◌∷◌, ◌++◌, length, map, le-leb, ltb-false, refl, sym, ap, subst, arith, inl, inr}
-use Rattle.std.specs.Prelude.{◌⊎◌, ◌&&◌, ◌||◌, not, nat_le, nat_lt, slice_get}
+use Rattle.std.proofs.Common.{◌≡◌, ◌∙◌, ◌<◌, ◌-◌, ◌==◌, zero, suc, ℕ, Bool, true, cond, Option, Some, None, List, [], ◌∷◌, ◌++◌, map, refl, sym, ap, subst, arith, inl, inr}
+use Rattle.std.specs.Prelude.{◌⊎◌, ◌&&◌, slice_get}
 use Rattle.std.specs.List.{AllByRecursion, Contains, list_any, filter}
 use Rattle.std.proofs.lemmas.Bool.{cases_Bool}
-use Rattle.client_rules.specs.Asking.{begins}
-use Rattle.byteorder.specs.Endian.{little_number}
-use Rattle.service_tl.specs.Schema.{rpc_error, rpc_answer_dropped_running}
 use Rattle.envelope.specs.declared.parts.Dir.{Dir}
 use Rattle.envelope.specs.declared.parts.Dir.TheVariants.{Up}
-use Rattle.server_rules.specs.Server.{is_good as is_kept_good}
 use Rattle.server_rules.specs.Server.{Name as SessionName}
 use Rattle.call_table.specs.declared.call.CallNo.{CallNo}
 use Rattle.call_table.specs.declared.call.Living.{Living}
 use Rattle.call_table.specs.Table.{Call, Name, at}
 use Rattle.client_rules.specs.Client.{Client, calls_of}
-use Rattle.client_rules.specs.Filling.{is_good}
+use Rattle.service_tl.specs.Results.{is_good}
 use Rattle.law_moves.specs.World.{World as Moved}
 use Rattle.law_order.specs.After.{IsHonest, IsPacketFor, Pair}
 use Rattle.law_order.specs.Behind.{GoesBehind, IsBehind, IsDoneWell, IsInTurn, IsStill, KeepsTurn, WentBehind}
@@ -145,26 +141,6 @@ module _ {S V : Type 0} (setting : Setting S V) (world behind : World S V) (go :
         first.3,
       )
 
--- ---- what ran and what didn't
-
-good-parts : (one other : Bool) → not (one || other) ≡ true → (one ≡ false) × (other ≡ false)
-good-parts true other is = absurd (true-false (sym is))
-good-parts false true is = absurd (true-false (sym is))
-good-parts false false is = (refl, refl)
-
--- a result that a client takes as good is so at the server
-good-there : (result : List ℕ) → is_good result ≡ true → is_kept_good result ≡ true
-good-there result good =
-    elim (cases_Bool (nat_lt (length result) 4)) [
-      | inl short ↦ rw short refl
-      | inr long ↦
-          let parts = good-parts (begins rpc_error.number result) (begins rpc_answer_dropped_running.number result) good in
-          let enough : nat_le 4 (length result) ≡ true = le-leb 4 (length result) (ltb-false (length result) 4 long) in
-          let one : (little_number 4 result == rpc_error.number) ≡ false = rw enough at parts.0 in
-          let other : (little_number 4 result == rpc_answer_dropped_running.number) ≡ false = rw enough at parts.1 in
-          rw (long, one, other) refl
-    ]
-
 -- a pair of a session that no client has
 abbrev nobody : Pair
 nobody = record { name = record { key = 0; session = 0 }; call = 0; earlier = 0 }
@@ -203,7 +179,7 @@ module _ {S V : Type 0} (setting : Setting S V) (m : Moved) (world behind : Worl
       let test : Entered → Bool = λ entered. list_any (λ name. is_entry_under client name entered) earlier.names in
       let among : Contains (entries_of world client earlier) ran.entered = subst (λ (all : List Entered). Contains all ran.entered) (sym ran.only) (here ran.entered []) in
       let found = from-filter test world.entries ran.entered among in
-      let good : is_kept_good ran.entered.entry.reply ≡ true = ap is_kept_good ran.replied ∙ good-there well.result well.good in
+      let good : is_good ran.entered.entry.reply ≡ true = ap is_good ran.replied ∙ well.good in
       let honest = honest-in world.entries (kept.served nobody (nobody-for m world h)).honest ran.entered found.0 in
       elim (cases_Bool ran.entered.entry.ran) [
         | inl did ↦ (ran.entered, found.0, found.1, ran-well ran.entered did good)

@@ -17,13 +17,13 @@ use Rattle.inbox.specs.Judging.{judge, unfolded}
 use Rattle.inbox.specs.Refusals.{Way}
 use Rattle.server_rules.specs.Answer.{message_in, messages_judged}
 use Rattle.server_rules.specs.Server.{Session, remembered}
-use Rattle.law_server_lives.specs.Lives.{request_of}
+use Rattle.law_server.specs.Lives.{request_of}
 use Rattle.call_table.specs.Table.{Call, Name}
 use Rattle.client_rules.specs.Client.{calls_of}
 use Rattle.client_rules.specs.Filling.{body_behind}
 use Rattle.law_moves.specs.Table as moves
 use Rattle.law_moves.specs.World.{World as Moved, IsName}
-use Rattle.law_client_moves.specs.Sent.{Asks, IsPacketSent, IsSent, WasSent}
+use Rattle.law_client.specs.Sent.{Asks, IsPacketSent, IsSent, WasSent}
 use Rattle.law_server_moves.specs.Servers.{IsPacketUp, IsUp}
 use Rattle.law_order.specs.After.{IsFor, IsPacketFor, Pair, awaited, is_among, is_aside, is_query}
 use Rattle.law_order.specs.Going.{IsFrom, IsPacketFrom}

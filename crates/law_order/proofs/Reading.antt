@@ -24,7 +24,7 @@ use Rattle.inbox.specs.declared.judged.Verdict.TheVariants.{Accepted, Again, Not
 use Rattle.inbox.specs.Kinds.{inner_messages, item_told, parts_among}
 use Rattle.inbox.specs.Judging.{unfolded}
 use Rattle.client_rules.specs.Asking.{begins_service, is_refused}
-use Rattle.law_client_moves.specs.Sent.{Asks, IsSaidAside}
+use Rattle.law_client.specs.Sent.{Asks, IsSaidAside}
 
 -- ---- how a body begins
 

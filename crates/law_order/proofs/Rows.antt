@@ -14,13 +14,14 @@ use Rattle.salt_line.specs.Rows.{future_rows_max}
 use Rattle.salt_line.specs.Future.{salt_rows}
 use Rattle.id_window.specs.declared.mark.Mark.{Mark}
 use Rattle.id_window.specs.declared.mark.Mark.TheVariants.{Noticed as MarkNoticed, Service, Container, Waiting, Replied, Acked, Dropped}
-use Rattle.inbox.specs.Kinds.{constructor_of}
+use Rattle.service_tl.specs.Results.{constructor_of}
 use Rattle.inbox.specs.States.{state_byte}
 use Rattle.inbox.specs.declared.judged.Verdict.{Verdict}
 use Rattle.inbox.specs.declared.judged.Verdict.TheVariants.{Accepted, Again, Noticed}
 use Rattle.waits.specs.declared.job.Job.{Job}
 use Rattle.waits.specs.Jobs.{Queue, accepted, is_call, first_job, without_first}
-use Rattle.server_rules.specs.Server.{Binding, Name, Reply, has_accepted, is_good, is_kept, kept_of, kept_replies, mark_in, marks_of, name_of, reply_to}
+use Rattle.server_rules.specs.Server.{Binding, Name, Reply, has_accepted, is_kept, kept_of, kept_replies, mark_in, marks_of, name_of, reply_to}
+use Rattle.service_tl.specs.Results.{is_good}
 use Rattle.server_rules.specs.Event.{BindingCall, Entry, Setting, Speaker}
 use Rattle.server_rules.specs.Speaking.{answers, answers_in_place, auth_key_perm_empty, bad_body, dropped, encrypted_message_invalid, has_said, jobs_full, made_room, msg_wait_failed, msg_wait_timeout, needs_salts, packed_body_refused, records, says, says_again, says_it_is_new, says_with_salt}
 use Rattle.outbox.specs.Replies.{fits}

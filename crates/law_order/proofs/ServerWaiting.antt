@@ -9,7 +9,8 @@ use Rattle.id_window.specs.History.{History, Outcome, Refused, AcceptedContainer
 use Rattle.waits.specs.declared.job.Job.{Job}
 use Rattle.waits.specs.declared.job.Unfinished.{Unfinished}
 use Rattle.waits.specs.Jobs.{Queue, is_call, is_of, is_ready, is_empty, without_first, ready_job, without_ready, waits_for, after_answer}
-use Rattle.server_rules.specs.Server.{Name, Reply, Session, Fate, IsKept, WasAcked, WasDropped, answered_mark, is_good, mark_after, mark_by, mark_in, marks_of, name_of, reply_to}
+use Rattle.server_rules.specs.Server.{Name, Reply, Session, Fate, IsKept, WasAcked, WasDropped, answered_mark, mark_after, mark_by, mark_in, marks_of, name_of, reply_to}
+use Rattle.service_tl.specs.Results.{is_good}
 use Rattle.server_rules.specs.Waiting.{Outlook, Over, InVain, GoesOn, outlook, outlook_by, outlook_of_mark, told}
 use Rattle.server_rules.specs.Calls.{each_once, is_over}
 use Rattle.law_order.specs.After.{IsAnswer, IsWaiting, Pair, is_among}

@@ -16,7 +16,8 @@ use Rattle.call_table.specs.Table as table
 use Rattle.client_rules.specs.Client.{Client, StateRequest, at_moment, calls_of, is_open}
 use Rattle.client_rules.specs.Asking.{alone}
 use Rattle.client_rules.specs.Learning.{ended, fate_at_end, fate_learning, learn, learnt_max, learns, settled_if, with_clock}
-use Rattle.client_rules.specs.Taking.{Notice, acknowledges, alone_call, alone_number, answered_by, asks_answer, becomes, fate_noticed, goes_again, has_asked, is_for, is_odd, message_in, messages_of, noticed, noticed_by, row, take, takes_message, takes_over, told_of, told_state, told_states, with_notice_clock, with_notice_salt, without_idle_wish}
+use Rattle.client_rules.specs.Taking.{Notice, acknowledges, alone_call, alone_number, answered_by, asks_answer, becomes, fate_noticed, goes_again, has_asked, is_for, message_in, messages_of, noticed, noticed_by, row, take, takes_message, takes_over, told_of, told_state, told_states, with_notice_clock, with_notice_salt, without_idle_wish}
+use Rattle.msg_ids.specs.Counters.{is_odd}
 use Rattle.law_order.specs.Behind.{LivesIn}
 use Rattle.law_order.proofs.Following.{AreKept, Base, Follows, NotDone, changed-turn, flagged-follows, mapped-turn, owner-sent, sent-open, settled-follows}
 use Rattle.law_order.proofs.Lists.{none-some}

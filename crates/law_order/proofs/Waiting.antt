@@ -6,15 +6,15 @@ use Rattle.std.proofs.lemmas.Bool.{cases_Bool, and_parts}
 use Rattle.tl_codec.specs.Standard.{bytes_max}
 use Rattle.service_tl.specs.Schema.{rpc_error, rpc_answer_dropped_running}
 use Rattle.envelope.specs.declared.parts.Envelope.{Envelope}
-use Rattle.inbox.specs.Kinds.{constructor_of}
+use Rattle.service_tl.specs.Results.{constructor_of}
 use Rattle.server_rules.specs.Event.{Entry}
-use Rattle.server_rules.specs.Server.{is_good, is_good_beginning}
+use Rattle.service_tl.specs.Results.{is_good, is_good_beginning}
 use Rattle.call_table.specs.declared.call.CallNo.{CallNo}
 use Rattle.call_table.specs.Table.{Call, Name, at}
 use Rattle.client_rules.specs.Client.{Client, calls_of}
 use Rattle.law_moves.specs.Table as moves
 use Rattle.law_moves.specs.World.{World as Moved}
-use Rattle.law_client_moves.specs.Sent.{IsPacketSent}
+use Rattle.law_client.specs.Sent.{IsPacketSent}
 use Rattle.law_server_moves.specs.Servers.{IsPacketUp}
 use Rattle.law_order.specs.After.{HasRun, Pair, is_run, is_run_well}
 use Rattle.law_order.specs.Behind.{GoesBehind, HasName, IsBehind, IsInTurn, KeepsTurn, WentBehind}

@@ -8,7 +8,8 @@ use Rattle.inbox.specs.Kinds.{item_told}
 use Rattle.inbox.specs.Refusals.{Way}
 use Rattle.waits.specs.declared.job.Unfinished.{Unfinished}
 use Rattle.waits.specs.Jobs.{Queue, is_call}
-use Rattle.server_rules.specs.Server.{Name, Reply, Session, is_good, name_of}
+use Rattle.server_rules.specs.Server.{Name, Reply, Session, name_of}
+use Rattle.service_tl.specs.Results.{is_good}
 use Rattle.server_rules.specs.Event.{Entry, Envelope}
 use Rattle.server_rules.specs.Events.{Event, Packet}
 use Rattle.server_rules.specs.Answer.{message_in, messages_judged, name_in}

@@ -6,7 +6,7 @@ use Rattle.call_table.specs.declared.call.Living.{Living}
 use Rattle.call_table.specs.Table.{Call, Name, at, living_name}
 use Rattle.call_table.specs.Table as table
 use Rattle.client_rules.specs.Client.{Client, calls_of}
-use Rattle.client_rules.specs.Filling.{is_good}
+use Rattle.service_tl.specs.Results.{is_good}
 
 -- the earlier call has a name of this session number and message number, which is below that of the message behind it
 pub record HasName (earlier : Call) (session own number : ℕ) : Type 0 where

@@ -8,8 +8,8 @@ use Rattle.call_table.specs.Table.{Call, Name}
 use Rattle.client_rules.specs.Client.{Asked, Binding, Client}
 use Rattle.client_rules.specs.Filling.{body_behind}
 use Rattle.client_rules.specs.Flush.{Answer, Nothing, Spent, Sends}
-use Rattle.law_client_moves.specs.Clients.{IsShort}
-use Rattle.law_client_moves.specs.Sent.{Asks, IsBindingCall}
+use Rattle.law_client.specs.Clients.{IsShort}
+use Rattle.law_client.specs.Sent.{Asks, IsBindingCall}
 
 -- One of these calls went as this message, in the session of this number: its body is the call's, behind the number of an earlier
 -- message where it went behind one.

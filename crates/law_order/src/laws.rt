@@ -12,7 +12,7 @@ ghost use Rattle.world_rules.specs.World.{World, begins};
 ghost use Rattle.world_rules.specs.Premises.{Fresh, IsByNoChance, IsOfBytes, IsSealed, IsSound, NoChance};
 ghost use Rattle.world_rules.specs.Run.{after, run_of, run_of_any};
 ghost use Rattle.world_rules.specs.Once.{InOrder, Once};
-ghost use Rattle.law_packet_parts.specs.Sizes.{KeepsSizes};
+ghost use Rattle.envelope.specs.Sizes.{KeepsSizes};
 ghost use Rattle.law_packets.specs.Lawful.{AreLawfulPackets};
 ghost use Rattle.server_rules.specs.Events.{Attach};
 ghost use Rattle.server_rules.specs.Server.{Name};

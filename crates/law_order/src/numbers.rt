@@ -10,7 +10,7 @@ ghost use Rattle.world_rules.specs.Setting.{Setting};
 ghost use Rattle.world_rules.specs.World.{World, begins};
 ghost use Rattle.world_rules.specs.Premises.{Fresh, IsOfBytes, IsSealed, IsSound, NoChance};
 ghost use Rattle.world_rules.specs.Run.{run_of, run_of_any};
-ghost use Rattle.law_packet_parts.specs.Sizes.{KeepsSizes};
+ghost use Rattle.envelope.specs.Sizes.{KeepsSizes};
 ghost use Rattle.law_order.specs.Numbers.{GivesOnce, SaysNo19};
 
 use draws::Draw;

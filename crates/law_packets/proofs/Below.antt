@@ -8,11 +8,11 @@ use Rattle.auth_keys.specs.declared.ring.RingKey.{RingKey}
 use Rattle.envelope.specs.declared.parts.Dir.{Dir}
 use Rattle.envelope.specs.declared.parts.Envelope.{Envelope}
 use Rattle.envelope.specs.Packet.{IsEnvelope, IsPadding, Lock, Sealed, body_max, packet_of}
-use Rattle.law_packet_parts.specs.Sizes.{KeepsSizes}
+use Rattle.envelope.specs.Sizes.{KeepsSizes}
 use Rattle.regs_service.specs.Served.{Step}
 use Rattle.server_rules.specs.Event as server
 use Rattle.server_rules.specs.Events as events
-use Rattle.law_server_sizes.specs.Small.{DrawsWords}
+use Rattle.law_server_bounds.specs.Small.{DrawsWords}
 use Rattle.client_rules.specs.Client.{Client, Temporary}
 use Rattle.client_rules.specs.Events as wishes
 use Rattle.client_rules.specs.Flush.{flush}

@@ -20,7 +20,8 @@ use Rattle.call_table.specs.Table.{Call, inner_of, living_name, owner, settled}
 use Rattle.client_rules.specs.Client.{Bound, Client, Held, Needed, Refused, StateRequest, Temporary, at_moment, calls_of, is_open}
 use Rattle.client_rules.specs.Asking.{alone, begins}
 use Rattle.client_rules.specs.Learning.{each_becomes, ended, fate_at_end, fate_learning, learn, learns, with_clock}
-use Rattle.client_rules.specs.Taking.{Notice, acknowledges, alone_among, alone_call, alone_number, answered_by, asked_states, asks_answer, becomes, behind, binding_answered, binding_error, binding_noticed, fate_noticed, goes_again, has_asked, is_for, is_odd, message_in, messages_of, noticed, noticed_by, packet_noticed, row, take, takes_message, takes_over, told_of, told_state, told_states, with_notice_clock, with_notice_salt, without_idle_wish}
+use Rattle.client_rules.specs.Taking.{Notice, acknowledges, alone_among, alone_call, alone_number, answered_by, asked_states, asks_answer, becomes, behind, binding_answered, binding_error, binding_noticed, fate_noticed, goes_again, has_asked, is_for, message_in, messages_of, noticed, noticed_by, packet_noticed, row, take, takes_message, takes_over, told_of, told_state, told_states, with_notice_clock, with_notice_salt, without_idle_wish}
+use Rattle.msg_ids.specs.Counters.{is_odd}
 use Rattle.law_packets.specs.Steady.{IsAsking, IsSteady, IsTemporary}
 use Rattle.law_packets.proofs.Calls.{each-becomes, flagged-keeps, settled-keeps, with-binding, with-call}
 use Rattle.law_packets.proofs.Spelled.{copies-bytes}

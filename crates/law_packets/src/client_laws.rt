@@ -25,6 +25,6 @@ pub fn packets_may_be_sealed<D: Draw>()
     containers::laws::parts_are_exact();
     containers::laws::container_sizes();
     msg_ids::laws::room_lasts();
-    law_packet_parts::laws::inner_bodies_are_bytes();
-    law_packet_parts::laws::drawn_padding_is_lawful::<D>();
+    containers::laws::inner_bodies_are_bytes();
+    envelope::laws::drawn_padding_is_lawful::<D>();
 }

@@ -7,7 +7,7 @@ ghost use Rattle.regs_service.specs.Served.{IsReply};
 ghost use Rattle.std.specs.List.{All};
 ghost use Rattle.auth_keys.specs.declared.ring.RingKey.{RingKey};
 ghost use Rattle.envelope.specs.Packet.{Lock};
-ghost use Rattle.law_packet_parts.specs.Sizes.{KeepsSizes};
+ghost use Rattle.envelope.specs.Sizes.{KeepsSizes};
 ghost use Rattle.sched_text.specs.declared.event.Event.{Event};
 ghost use Rattle.server_rules.specs.Events.{Attach};
 ghost use Rattle.server_rules.specs.Server.{Name};
@@ -39,7 +39,7 @@ pub fn packets_of_worlds_are_lawful<D: Draw, V>()
 {
     auth_keys::laws::one_key_of_an_identifier();
     auth_keys::laws::identifiers_are_longs();
-    law_packet_parts::laws::lawful_parts_are_sealed();
+    envelope::laws::lawful_parts_are_sealed();
     crate::client_laws::packets_may_be_sealed::<D>();
     law_server_bounds::laws::packets_may_be_sealed::<D, V>();
 }

@@ -310,7 +310,7 @@ module _ {D : Type 0} (step : D → ℕ × D) (ring : List RingKey) where
       → AllByRecursion (λ (run : Served step ring). AreTimelyActs (start_by run).acts) serves → IsServerLeft serves world
   left-so world [] is timely = absurd is
   left-so world (run ∷ earlier) is timely =
-      let left = run-host run.first run.connections run.are (connections-in-turn run.conns run.ending run.connections run.ended) timely.0 in
+      let left = run-host run.first run.connections run.are (connections-in-turn ring run.conns run.ending run.connections run.ended run.whole) timely.0 in
       let begun : of_between run.first ≡ record { server = fresh_server; service = registers.fresh; draw = run.first.draw } =
       ap (λ (s : Server). record { server = s; service = run.first.service; draw = run.first.draw }) run.server
       ∙ ap (λ (v : Registers). record { server = fresh_server; service = v; draw = run.first.draw }) run.service in

@@ -7,8 +7,9 @@ use Rattle.client_node.specs.Trace.{AreLost, Attempt, EndsBy as BatchEndsBy, IsA
 use Rattle.client_node.specs.declared.plan.Batch.{Batch}
 use Rattle.client_node.specs.declared.plan.Plan.{Plan}
 use Rattle.client_node.specs.Took.{NoneDecides}
+use Rattle.auth_keys.specs.declared.ring.RingKey.{RingKey}
 use Rattle.cmd_serve.specs.Connections.{Connection, EndsBy}
-use Rattle.cmd_serve.specs.Runs.{Registers}
+use Rattle.cmd_serve.specs.Runs.{IsBroken, Registers, Serves}
 use Rattle.law_runs.proofs.InTurn.{AllInTurn, AreHeardInTurn, AreInTurn, ClosesInTurn, ConnectsInTurn, TriesInTurn}
 
 none-so : {S : Type 0} (rules : Rules S) (now : ℕ) (course : Course S) (heard : List (List ℕ)) → NoneDecides rules.setting.step rules.reading now course heard
@@ -23,8 +24,10 @@ heard-so : {S : Type 0} (rules : Rules S) (opening : Opening) (place : Place S) 
     → AreHeardInTurn rules.setting.step rules.reading place.now place.course heard
 heard-so rules opening place heard end hearing = grind (arith, none-so rules place.now place.course heard, last-so rules place.now place.course heard, hearing)
 
-turn-so : {D : Type 0} (conns : ℕ) (ending : _) (last : Connection D Registers) (earlier : List (Connection D Registers)) → EndsBy conns ending (last ∷ earlier) → AreInTurn (last ∷ earlier)
-turn-so conns ending last earlier ended = grind (arith, ended)
+-- the last one may have been cut off, but not by a journal
+turn-so : {D : Type 0} (ring : List RingKey) (conns : ℕ) (ending : _) (last : Connection D Registers) (earlier : List (Connection D Registers)) → EndsBy conns ending (last ∷ earlier)
+    → (IsBroken (Serves ring (last ∷ earlier) ending) → ⊥) → AreInTurn (last ∷ earlier)
+turn-so ring conns ending last earlier ended whole = grind (arith, ended, whole)
 
 -- ---- a client's attempts
 
@@ -57,6 +60,7 @@ module _ {S : Type 0} (rules : Rules S) where
 
 -- ---- a server's connections
 
-pub connections-in-turn : {D : Type 0} (conns : ℕ) (ending : _) (connections : List (Connection D Registers)) → EndsBy conns ending connections → AreInTurn connections
-connections-in-turn conns ending [] ended = tt
-connections-in-turn conns ending (last ∷ earlier) ended = turn-so conns ending last earlier ended
+pub connections-in-turn : {D : Type 0} (ring : List RingKey) (conns : ℕ) (ending : _) (connections : List (Connection D Registers)) → EndsBy conns ending connections
+    → (IsBroken (Serves ring connections ending) → ⊥) → AreInTurn connections
+connections-in-turn ring conns ending [] ended whole = tt
+connections-in-turn ring conns ending (last ∷ earlier) ended whole = turn-so ring conns ending last earlier ended whole

@@ -16,16 +16,14 @@ use Rattle.cmd_call.specs.Reading.{reading_under}
 use Rattle.cmd_call.specs.Script.{given_all, untaken}
 use Rattle.cmd_serve.specs.Connections.{AreConnections, Between, Connection, EndsBy, behind_all}
 use Rattle.cmd_serve.specs.Packets.{outside_of}
-use Rattle.cmd_serve.specs.Runs.{Course as ServeCourse, Deaf, Mute, Refused, Registers, Serves, Unbegun, Unread}
+use Rattle.cmd_serve.specs.Runs.{Course as ServeCourse, Deaf, IsBroken, Mute, Refused, Registers, Serves, Shut, Unbegun, Unread}
 use Rattle.draws.specs.Draws.{draw_after, word_after}
 use Rattle.envelope.specs.Lock.{mt_lock}
-use Rattle.envelope.specs.Packet.{packet_of}
-use Rattle.envelope.specs.declared.parts.Dir.{Dir}
-use Rattle.envelope.specs.declared.parts.Envelope.{Envelope}
 use Rattle.msg_ids.specs.Moments.{latest_moment}
 use Rattle.regs_service.specs.Registers as registers
 use Rattle.ring_rules.specs.Binding.{keys_of}
 use Rattle.ring_rules.specs.Opening.{opened}
+use Rattle.ring_rules.specs.Sealing.{packet_under}
 use Rattle.server_rules.specs.Server.{fresh_server}
 use Rattle.server_node.specs.Trace.{Act, Attach, Hear, Run, Tick, rules_of}
 use Rattle.world_rules.specs.Setting.{Setting}
@@ -38,11 +36,6 @@ use Rattle.law_runs.specs.Parts.{Part, Start, parts_of, starts_of}
 
 -- ---- in what they run
 
--- a packet under a key of a ring, where there is one
-abbrev pub packet_under : Option RingKey → Dir → Envelope → List ℕ → List ℕ
-packet_under None dir envelope padding = []
-packet_under (Some entry) dir envelope padding = packet_of mt_lock entry.key dir envelope padding
-
 -- the identifier of the first key of a ring
 abbrev pub first_key : List RingKey → ℕ
 first_key [] = 0
@@ -54,7 +47,7 @@ abbrev pub setting_under : {D : Type 0} → (D → ℕ × D) → List RingKey �
 setting_under step ring =
     record {
       step = step;
-      sealed = λ dir envelope padding. packet_under (entry_of envelope.key ring) dir envelope padding;
+      sealed = λ dir envelope padding. packet_under mt_lock (entry_of envelope.key ring) dir envelope padding;
       opens = opened mt_lock ring;
       keys = record { permanent = first_key ring; temporary = first_key ring; expires = 0 };
       is_temporary = (keys_of ring).is_temporary;
@@ -70,8 +63,8 @@ AreWords {D = D} step = (draw : D) → (step draw).0 < 2 ^ 64
 
 -- ---- a run of `serve`
 
--- The connections that a run of `serve` served with this ring, as `ServeRun.serves` tells of them, with how many there should be and
--- how they ended: one trace from a fresh server and a fresh service on.
+-- The connections that a run of `serve` without a journal served with this ring, as `ServeRun.serves` tells of them, with how many
+-- there should be and how they ended: one trace from a fresh server and a fresh service on.
 pub record Served {D : Type 0} (step : D → ℕ × D) (ring : List RingKey) : Type 0 where
   pub first : Between D Registers
   pub connections : List (Connection D Registers)
@@ -79,6 +72,8 @@ pub record Served {D : Type 0} (step : D → ℕ × D) (ring : List RingKey) : T
   pub ending : _
   pub are : AreConnections (rules_of step registers.step (outside_of ring)) first connections
   pub ended : EndsBy conns ending connections
+  -- none ended by a journal
+  pub whole : IsBroken (Serves ring connections ending) → ⊥
   pub server : first.server ≡ fresh_server
   pub service : first.service ≡ registers.fresh
 
@@ -88,6 +83,7 @@ IsServing (Serves ring connections ending) = Unit {0}
 IsServing Unread = ⊥
 IsServing (Refused line) = ⊥
 IsServing Unbegun = ⊥
+IsServing (Shut ring) = ⊥
 IsServing (Deaf ring) = ⊥
 IsServing (Mute ring) = ⊥
 

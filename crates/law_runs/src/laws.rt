@@ -10,7 +10,7 @@ ghost use Rattle.cmd_call.specs.Owed.{Around, Files, LeftBatch, RanBatch, begins
 ghost use Rattle.cmd_pair.specs.Batches.{OverBoth, OverOne};
 ghost use Rattle.cmd_pair.specs.Checks.{IsReady};
 ghost use Rattle.cmd_pair.specs.Servers.{Kids};
-ghost use Rattle.cmd_serve.specs.Runs.{Course, Draws, Moments, ServesBy, first_of};
+ghost use Rattle.cmd_serve.specs.Runs.{Course, Draws, IsBroken, Moments, ServesBy, first_of};
 ghost use Rattle.commands.specs.declared.command.CallOptions.{CallOptions};
 ghost use Rattle.commands.specs.declared.command.PairOptions.{PairOptions};
 ghost use Rattle.commands.specs.declared.command.ServeOptions.{ServeOptions};
@@ -28,14 +28,14 @@ use draws::Draw;
 use envelope::MtSeal;
 use regs_service::Regs;
 
-/// What `ServeRun.serves` tells of a run that served connections, and what `CallRun.told` tells of a batch that was run, or left where
-/// memory ran out, or `PairRun.told` of its one or two batches, is a run of `serve`, and one of a client, as joint runs have them: with
-/// the events of the trace that is told, and with the batches and their attempts, and the client whose table was told, where one was.
-/// The two servers of `pair` are runs of `serve` of their own, of which it tells that they were started, one behind the other, with its
-/// key file.
+/// What `ServeRun.serves` tells of a run without a journal that served connections, and what `CallRun.told` tells of a batch that was run,
+/// or left where memory ran out, or `PairRun.told` of its one or two batches, is a run of `serve`, and one of a client, as joint runs have
+/// them: with the events of the trace that is told, and with the batches and their attempts, and the client whose table was told, where
+/// one was. The two servers of `pair` are runs of `serve` of their own, of which it tells that they were started, one behind the other,
+/// with its key file.
 pub fn runs_are_told<D: Draw, S, F, N, C, P>()
     ensures serves { (step : D → ℕ × D) (options : ServeOptions) (moments : Moments) (draws : Draws D) (course : Course D) → (served : ServesBy step options moments draws course)
-        → IsServing course
+        → (IsBroken course → ⊥) → IsServing course
         → (run : Served step (ring_in course)) × (run.first ≡ first_of options moments draws.before) × (run.connections ≡ connections_in course)
         × ((start_by run).acts ≡ acts_told step options moments draws course served) }
     ensures calls { (options : CallOptions) (text : List ℕ) (calls : List ScriptCall) (ring : List RingKey) (keys : Keys) (around : Around N C D) (one : Status) (due : List ℕ) → Spells text calls
@@ -118,6 +118,6 @@ pub fn runs_execute_once<D: Draw>()
     clients_are_left::<D>();
     servers_are_left::<D>();
     envelope::laws::opens_what_it_sealed::<MtSeal>();
-    law_packet_parts::laws::locks_keep_sizes();
+    envelope::laws::locks_keep_sizes();
     law_connections::laws::connections_execute_once::<D, Regs>();
 }

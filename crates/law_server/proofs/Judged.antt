@@ -16,7 +16,8 @@ use Rattle.inbox.specs.declared.judged.Verdict.{Verdict}
 use Rattle.inbox.specs.declared.judged.Verdict.TheVariants.{Accepted, Again, Noticed}
 use Rattle.inbox.specs.declared.judged.Judgement.{Judgement}
 use Rattle.containers.specs.declared.fault.ContainerFault.{ContainerFault}
-use Rattle.inbox.specs.Kinds.{kind_of, item_told, kind_among, container_in, constructor_of, begins_acknowledgement, begins_call}
+use Rattle.inbox.specs.Kinds.{kind_of, item_told, kind_among, container_in, begins_acknowledgement, begins_call}
+use Rattle.service_tl.specs.Results.{constructor_of}
 use Rattle.inbox.specs.Refusals.{Way, InContainer, refusal, by_number, by_envelope, by_parity, by_neighbours, by_body}
 use Rattle.inbox.specs.Judging.{Session as Remembered, is_container, is_uncontained, verdict_by, judge, is_accepted, outcome_of, first_mark, recorded, remembered, judged_session, judgement_on, inner_judgements, inner_session, unfolded, judgements, session_after}
 use Rattle.server_rules.specs.Server.{Reply, marks_of, mark_after, reply_to}

@@ -13,7 +13,8 @@ use Rattle.service_tl.specs.Fields.{Field, Holds, field_at}
 use Rattle.service_tl.specs.Schema.{Row, Makes, schema, service_numbers, gzip_packed, msgs_ack, fields_at, item_in}
 use Rattle.service_tl.specs.ItemOf.{whole, item_behind, item_after, item_of}
 use Rattle.containers.specs.Container.{begins_container}
-use Rattle.inbox.specs.Kinds.{constructor_of, begins_acknowledgement, begins_call, calling_numbers}
+use Rattle.inbox.specs.Kinds.{begins_acknowledgement, begins_call, calling_numbers}
+use Rattle.service_tl.specs.Results.{constructor_of}
 use Rattle.law_server.specs.Order.{is_for_service}
 use Rattle.law_server.proofs.Judged.{IsService}
 

@@ -190,7 +190,7 @@ module _ {S : Type 0} (laws : Speak S) (setting : Setting S) (own : Name) (numbe
     repeated = λ reply n x p. again-p reply n (suc n) x p;
     kept = λ reply n x there is p. again-p reply n n x p;
     fated = λ change n x only p. record { named_so = p.named_so; taken = fated-t change x.session.replies x.jobs only p.taken };
-    joined = λ job n x room p. record { named_so = p.named_so; taken = joined-t job x.session.replies x.jobs p.taken };
+    joined = λ job n x key session room p. record { named_so = p.named_so; taken = joined-t job x.session.replies x.jobs p.taken };
     ended = λ job request content n x fine p. record { named_so = p.named_so; taken = ended-t job content x p.taken };
     told = λ told_number n x p. record { named_so = p.named_so; taken = told-t (outlook x.session x.jobs told_number) x.session told_number x.session.replies x.jobs p.taken };
     bound = λ bindings n x p. record { named_so = p.named_so; taken = p.taken };

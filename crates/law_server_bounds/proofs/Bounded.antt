@@ -66,7 +66,7 @@ module _ {S : Type 0} (H J : Type 0) (fit : AnswersFit S) (setting : Setting S) 
     repeated = λ reply n x p. cond_both (has_said reply.number x) x (owes_message (message_of reply) x) (P n) (λ is. p) (λ is. p);
     kept = λ reply n x there is p. cond_both (has_said reply.number x) x (owes_message (message_of reply) x) (P n) (λ is. p) (λ is. p);
     fated = λ change n x only p. (λ h. drops-within change only x.session.replies (p.0 h), p.1);
-    joined = λ job n x room p. (p.0, λ j. accepted-within job x room (p.1 j));
+    joined = λ job n x key session room p. (p.0, λ j. accepted-within job x room (p.1 j));
     ended = λ job request content n x fine p.
         let left : Speaker S = record x { jobs = without_first (is_call job.key job.session job.number) x.jobs } in
         (λ h. fit setting job.number content left (fine h job.number), λ j. first-within (is_call job.key job.session job.number) x.jobs (p.1 j));

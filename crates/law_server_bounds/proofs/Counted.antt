@@ -209,7 +209,7 @@ module _ {S : Type 0} (laws : Speak S) (setting : Setting S) (own : Name) where
     repeated = repeated-p;
     kept = kept-p;
     fated = fated-p;
-    joined = λ job n x room p. joined-p job n x p;
+    joined = λ job n x key session room p. joined-p job n x p;
     ended = λ job request content n x fine p.
         let test = is_call job.key job.session job.number in
         placed-p false job.number request content n (record x { jobs = without_first test x.jobs }) (taken-p test n x p);

@@ -9,7 +9,7 @@ use Rattle.server_rules.specs.Server.{Name, Session, is_named, is_same, name_of,
 use Rattle.server_rules.specs.Event.{Owed, Sent, Setting, State, lost}
 use Rattle.server_rules.specs.Sending.{all_sent, messages_by}
 use Rattle.server_rules.specs.Answer.{Answer, ended, is_spent}
-use Rattle.law_server_sizes.specs.Small.{AreGivenTo, IsSmallState}
+use Rattle.law_server_bounds.specs.Small.{AreGivenTo, IsSmallState}
 use Rattle.law_server_bounds.specs.Steady.{IsKnown}
 use Rattle.law_server_bounds.proofs.Counts.{FallsByOne, count, messages-count}
 use Rattle.law_server_bounds.proofs.Lists.{find-of, rec-filter}

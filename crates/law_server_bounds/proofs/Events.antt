@@ -15,7 +15,7 @@ use Rattle.server_rules.specs.Event.{Envelope, Sent, Setting, speaks}
 use Rattle.server_rules.specs.Answer.{after_run, attaches, begun, runs, takes, ticks}
 use Rattle.server_rules.specs.Events.{Attach, Course, Event, Loss, Packet, Restart, Tick, Work, after_event, setting_at, worked}
 use Rattle.law_server_bounds.specs.Runs.{IsShortRun}
-use Rattle.law_server_sizes.specs.Small.{AreGivenTo, AreSmall, DrawsWords, GivesReplies, HasSmallEnvelope, IsContent, IsSmallEnvelope, IsSmallState, IsWholeSent}
+use Rattle.law_server_bounds.specs.Small.{AreGivenTo, AreSmall, DrawsWords, GivesReplies, HasSmallEnvelope, IsContent, IsSmallEnvelope, IsSmallState, IsWholeSent}
 use Rattle.law_server_bounds.specs.Steady.{IsFair, IsKnown, IsSealable, IsSteady}
 use Rattle.law_server_bounds.proofs.Bodies.{AreLawful}
 use Rattle.law_server_bounds.proofs.Ending.{Gives, Laws, gives}

@@ -21,3 +21,13 @@ pub mod Sending
 pub mod Ending
 pub mod Events
 pub mod Losing
+pub mod SizeLists
+pub mod SizeNames
+pub mod Items
+pub mod Packets
+pub mod Speaking
+pub mod SizeContents
+pub mod SizeRows
+pub mod Judging
+pub mod States
+pub mod Courses

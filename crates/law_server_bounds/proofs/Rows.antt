@@ -13,7 +13,7 @@ use Rattle.salt_line.specs.Future.{salt_rows}
 use Rattle.id_window.specs.History.{History}
 use Rattle.id_window.specs.declared.mark.Mark.{Mark}
 use Rattle.id_window.specs.declared.mark.Mark.TheVariants.{Noticed as MarkNoticed, Replied, Dropped}
-use Rattle.inbox.specs.Kinds.{constructor_of}
+use Rattle.service_tl.specs.Results.{constructor_of}
 use Rattle.inbox.specs.States.{state_byte}
 use Rattle.inbox.specs.declared.judged.Verdict.{Verdict}
 use Rattle.inbox.specs.declared.judged.Verdict.TheVariants.{Accepted, Again, Noticed}
@@ -45,7 +45,8 @@ pub record Steps (S : Type 0) (setting : Setting S) (F : List ℕ → Type 0) (P
   pub kept : (reply : Reply) (n : ℕ) (x : Speaker S) → Contains x.session.replies reply → is_kept reply ≡ true → P n x → P n (says_again reply x)
   pub fated : (change : Reply → Reply) (n : ℕ) (x : Speaker S) → OnlyDrops change → P n x
       → P n (record x { session = record x.session { replies = map change x.session.replies } })
-  pub joined : (job : Job) (n : ℕ) (x : Speaker S) → is_full job x ≡ false → P n x → P (suc n) (record x { jobs = with_job job x.jobs })
+  pub joined : (job : Job) (n : ℕ) (x : Speaker S) → job.key ≡ x.session.key → job.session ≡ x.session.number → is_full job x ≡ false → P n x
+      → P (suc n) (record x { jobs = with_job job x.jobs })
   pub ended : (job : Job) (request content : List ℕ) (n : ℕ) (x : Speaker S) → F content → P n x
       → P (suc n) (answers_in_place setting job.number request content (record x { jobs = without_first (is_call job.key job.session job.number) x.jobs }))
   pub told : (number n : ℕ) (x : Speaker S) → P n x → P n (tells_of number x)
@@ -119,7 +120,7 @@ module _ {S : Type 0} (setting : Setting S) (F : List ℕ → Type 0) (P : ℕ �
       refusal-by (λ (content : Option (List ℕ)). P (suc n) (becomes_job setting job content x)) (is_unbound setting x) (is_full job x) (has_failed_already job x)
       (query_refusal (constructor_of job.request)) (query-fits (constructor_of job.request))
       (λ content fits. steps.placed false job.number job.request content n x (steps.fine content fits) p)
-      (λ room. steps.joined job n x room p)
+      (λ room. steps.joined job n x refl refl room p)
 
   run-dropped : (number : ℕ) (job : Job) (n : ℕ) (x : Speaker S) → P n x → P (suc (suc n)) (drops_running setting number job x)
   run-dropped number job n x p =

@@ -11,14 +11,15 @@ use Rattle.service_tl.specs.declared.lists.Message.{Message}
 use Rattle.salt_line.specs.Line.{Line, current_salt}
 use Rattle.packing.specs.Numbering.{numbered}
 use Rattle.packing.specs.Packing.{after_packets, packets_of}
-use Rattle.id_window.specs.Crossing.{is_odd}
+use Rattle.msg_ids.specs.Counters.{is_odd}
 use Rattle.id_window.specs.Marks.{Marks}
 use Rattle.id_window.specs.History.{History, FirstJudgement, Outcome, noted, was_accepted}
 use Rattle.containers.specs.declared.fault.ContainerFault.{ContainerFault}
 use Rattle.inbox.specs.declared.judged.Judgement.{Judgement}
 use Rattle.inbox.specs.declared.judged.Verdict.{Verdict}
 use Rattle.inbox.specs.declared.judged.Verdict.TheVariants.{Accepted, Again, Noticed}
-use Rattle.inbox.specs.Kinds.{begins_acknowledgement, begins_call, constructor_of, container_in, inner_messages, item_told, kind_among, kind_beginning, kind_of}
+use Rattle.inbox.specs.Kinds.{begins_acknowledgement, begins_call, container_in, inner_messages, item_told, kind_among, kind_beginning, kind_of}
+use Rattle.service_tl.specs.Results.{constructor_of}
 use Rattle.inbox.specs.Refusals.{InContainer, InEnvelope}
 use Rattle.inbox.specs.Judging.{Session as Remembered, inner_judgements, inner_session, judge, judged_session, judgement_on, judgements, outcome_of, recorded, remembered as remembered_so, session_after, unfolded}
 use Rattle.waits.specs.declared.job.Job.{Job}

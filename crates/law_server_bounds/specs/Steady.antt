@@ -12,7 +12,7 @@ use Rattle.waits.specs.Jobs.{AreWithinLimits, ready_job}
 use Rattle.server_rules.specs.Server.{Server, Session, kept_replies}
 use Rattle.server_rules.specs.Event.{Sent}
 use Rattle.server_rules.specs.Events.{Course, Event, Packet, Work}
-use Rattle.law_server_sizes.specs.Small.{AreSmall, IsContent, IsSmallEnvelope, IsWhole}
+use Rattle.law_server_bounds.specs.Small.{AreSmall, IsContent, IsSmallEnvelope, IsWhole}
 
 -- ---- what is kept
 

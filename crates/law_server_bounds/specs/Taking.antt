@@ -5,7 +5,7 @@ use Rattle.inbox.specs.Kinds.{item_told}
 use Rattle.waits.specs.Jobs.{Queue, is_call}
 use Rattle.service_tl.specs.declared.item.Item.TheVariants.{MsgsAck}
 use Rattle.service_tl.specs.Items.{spelling_of}
-use Rattle.id_window.specs.Crossing.{is_odd}
+use Rattle.msg_ids.specs.Counters.{is_odd}
 use Rattle.server_rules.specs.Server.{Name, Reply, Server, Session, session_named}
 use Rattle.server_rules.specs.Event.{Setting, Envelope, Owed}
 use Rattle.server_rules.specs.Sending.{all_sent}

@@ -13,14 +13,14 @@ ghost use Rattle.server_rules.specs.Answer.{begun, hears, message_in, name_in};
 ghost use Rattle.server_rules.specs.Events.{Course, Event, after_event, begun_course, course_of};
 ghost use Rattle.law_server_bounds.specs.Giving.{GivesFew};
 ghost use Rattle.law_server_bounds.specs.Runs.{AreShortRuns, IsShortRun};
-ghost use Rattle.law_server_sizes.specs.Small.{DrawsWords};
+ghost use Rattle.law_server_bounds.specs.Small.{DrawsWords};
 ghost use Rattle.law_server_bounds.specs.Taking.{IsTaken};
 ghost use Rattle.law_server_bounds.specs.Losing.{IsLostIn};
 ghost use Rattle.law_server_bounds.specs.Steady.{IsFair, IsSealable, IsSteady};
 
+use crate::sizes::{packets_are_whole, sizes_stay_small, what_is_owed_is_small};
 use draws::Draw;
 use law_server::laws::{sessions_have_room, sessions_speak};
-use law_server_sizes::laws::{packets_are_whole, sizes_stay_small, what_is_owed_is_small};
 
 /// After every list of events each session keeps at most 4,096 replies, of 4,194,304 bytes together, as long as each reply
 /// of the service on the way has at most 262,144 bytes.
@@ -101,7 +101,7 @@ pub fn packets_may_be_sealed<D: Draw, V>()
     containers::laws::parts_are_exact();
     packing::laws::packets_have_all_messages();
     msg_ids::laws::room_lasts();
-    law_packet_parts::laws::drawn_padding_is_lawful::<D>();
+    envelope::laws::drawn_padding_is_lawful::<D>();
     sessions_speak::<D>();
     sessions_have_room::<D, V>();
     replies_are_few::<D, V>();

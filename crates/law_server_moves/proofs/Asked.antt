@@ -22,8 +22,8 @@ use Rattle.service_tl.specs.Schema.{schema, service_numbers, gzip_packed, rpc_dr
 use Rattle.containers.specs.Container.{begins_container, constructor}
 use Rattle.inbox.specs.Kinds.{item_told}
 use Rattle.client_rules.specs.Asking.{begins_service, is_refused}
-use Rattle.law_server_lives.specs.Lives.{request_of}
-use Rattle.law_client_moves.specs.Sent.{Asks, IsSaidAside}
+use Rattle.law_server.specs.Lives.{request_of}
+use Rattle.law_client.specs.Sent.{Asks, IsSaidAside}
 
 -- ---- rows of the schema
 

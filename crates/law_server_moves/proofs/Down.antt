@@ -23,7 +23,7 @@ use Rattle.envelope.specs.declared.parts.Envelope.{Envelope}
 use Rattle.client_rules.specs.Taking.{messages_of}
 use Rattle.law_moves.specs.Table as moves
 use Rattle.law_moves.specs.World.{World}
-use Rattle.law_client_moves.specs.Packets.{item_there, items_there, packet_items}
+use Rattle.law_client.specs.Packets.{item_there, items_there, packet_items}
 use Rattle.world_rules.specs.Setting.{as_heard}
 use Rattle.law_server_moves.specs.Speaking.{IsPlain}
 use Rattle.law_server_moves.specs.Sending.{AreSpelt, IsSmall, WentOut}

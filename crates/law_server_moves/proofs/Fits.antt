@@ -5,7 +5,7 @@ use Rattle.std.specs.List.{AllByRecursion}
 use Rattle.std.proofs.lemmas.Bool.{cases_Bool}
 use Rattle.id_window.specs.History.{FirstJudgement, History, Outcome, ascending, floor, forgotten, greatest_among, inserted}
 use Rattle.server_rules.specs.Server.{Reply, Session}
-use Rattle.law_server_sizes.specs.Small.{IsSmallJudgement, IsSmallOutcome, IsSmallRow}
+use Rattle.law_server_bounds.specs.Small.{IsSmallJudgement, IsSmallOutcome, IsSmallRow}
 use Rattle.law_moves.specs.Table.Item.{NewSession, Result, Notice, WrongSalt}
 use Rattle.law_moves.specs.Table as moves
 use Rattle.law_moves.specs.World.{World}

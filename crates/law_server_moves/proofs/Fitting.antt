@@ -5,7 +5,7 @@ use Rattle.salt_line.specs.Line.{Line}
 use Rattle.server_rules.specs.Server.{Name, Reply, Session, name_of, session_named}
 use Rattle.server_rules.specs.Event.{Setting, State}
 use Rattle.server_rules.specs.Sending.{all_sent}
-use Rattle.law_server_sizes.specs.Small.{IsSmallReply, IsSmallRow, IsSmallSession, IsSmallState}
+use Rattle.law_server_bounds.specs.Small.{IsSmallReply, IsSmallRow, IsSmallSession, IsSmallState}
 use Rattle.law_server_moves.specs.Speaking.{with_line}
 use Rattle.law_server_moves.specs.Events.{lined, with_lines}
 use Rattle.law_server_moves.specs.Sending.{IsFit}

@@ -12,7 +12,8 @@ use Rattle.id_window.specs.History.{FirstJudgement, History, Outcome, Refused, A
 use Rattle.waits.specs.declared.job.Job.{Job}
 use Rattle.waits.specs.declared.job.Unfinished.{Unfinished}
 use Rattle.waits.specs.Jobs.{Queue, first_job}
-use Rattle.server_rules.specs.Server.{Fate, IsKept, Reply, WasAcked, WasDropped, answered_mark, is_good, mark_after, mark_by, marks_of, reply_to}
+use Rattle.server_rules.specs.Server.{Fate, IsKept, Reply, WasAcked, WasDropped, answered_mark, mark_after, mark_by, marks_of, reply_to}
+use Rattle.service_tl.specs.Results.{is_good}
 use Rattle.law_server_moves.specs.Servers.{has_dropped, is_dropped}
 use Rattle.law_server_moves.proofs.Lists.{here, later}
 

@@ -8,7 +8,7 @@ use Rattle.law_moves.specs.Extends.{IsOfServer}
 use Rattle.law_moves.specs.Lawful.{IsLawful}
 use Rattle.law_moves.specs.After.{after}
 use Rattle.law_moves.specs.Reached.{AreLawful, Reached, after_all}
-use Rattle.law_client_moves.specs.Leading.{IsOfServers}
+use Rattle.law_client.specs.Leading.{IsOfServers}
 use Rattle.law_server_moves.specs.Leading.{Leads}
 
 -- what the law on moves promises of lists of moves

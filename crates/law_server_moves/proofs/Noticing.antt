@@ -7,7 +7,7 @@ use Rattle.std.proofs.lemmas.Bool.{cases_Bool, cases_eq, cond_both}
 use Rattle.std.proofs.lemmas.List.Elements.{Contains-append_left, Contains-append_right}
 use Rattle.std.proofs.lemmas.Bool.Decides.{nat_tests}
 use Rattle.id_window.specs.declared.mark.Mark.{Mark}
-use Rattle.id_window.specs.Crossing.{is_odd}
+use Rattle.msg_ids.specs.Counters.{is_odd}
 use Rattle.id_window.specs.declared.cross.Cross.{Cross}
 use Rattle.id_window.specs.declared.cross.Cross.TheVariants.{None as Apart, Low, High}
 use Rattle.id_window.specs.History.{FirstJudgement, History, Outcome, Refused, crosses, floor, found}
@@ -18,7 +18,8 @@ use Rattle.inbox.specs.declared.judged.Verdict.TheVariants.{Accepted, Again, Not
 use Rattle.inbox.specs.declared.judged.Judgement.{Judgement}
 use Rattle.containers.specs.Container.{begins_container}
 use Rattle.containers.specs.declared.fault.ContainerFault.{ContainerFault}
-use Rattle.inbox.specs.Kinds.{begins_acknowledgement, begins_call, constructor_of, container_in, item_told, kind_among, kind_of}
+use Rattle.inbox.specs.Kinds.{begins_acknowledgement, begins_call, container_in, item_told, kind_among, kind_of}
+use Rattle.service_tl.specs.Results.{constructor_of}
 use Rattle.inbox.specs.Refusals.{Way, InContainer, InEnvelope, by_body, by_envelope, by_neighbours, by_parity, is_valid_salt, needs_even, needs_odd, refusal, second_of}
 use Rattle.inbox.specs.Judging.{Session as Remembered, inner_judgements, inner_session, is_container, is_recorded, is_uncontained, judge, judged_session, recorded, judgements, remembered as remembers, session_after, unfolded, verdict_by}
 use Rattle.law_server_moves.proofs.Lists.{here}

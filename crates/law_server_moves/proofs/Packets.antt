@@ -16,19 +16,20 @@ use Rattle.id_window.specs.History.{FirstJudgement, History, Outcome, Refused, A
 use Rattle.containers.specs.declared.fault.ContainerFault.{ContainerFault}
 use Rattle.inbox.specs.declared.judged.Verdict.{Verdict}
 use Rattle.inbox.specs.declared.judged.Verdict.TheVariants.{Accepted, Again, Noticed}
-use Rattle.inbox.specs.Kinds.{begins_acknowledgement, begins_call, constructor_of, container_in, item_told, kind_among, kind_of}
+use Rattle.inbox.specs.Kinds.{begins_acknowledgement, begins_call, container_in, item_told, kind_among, kind_of}
+use Rattle.service_tl.specs.Results.{constructor_of}
 use Rattle.inbox.specs.Refusals.{Way, InContainer, InEnvelope, by_envelope, by_number, is_row_of, is_valid_salt, refusal}
 use Rattle.inbox.specs.Judging.{Session as Remembered, first_mark, inner_judgements, inner_session, is_container, is_recorded, is_uncontained, judge, judged_session, judgements, outcome_of, recorded, remembered as remembers, session_after, unfolded, verdict_by}
 use Rattle.waits.specs.Jobs.{Queue}
 use Rattle.server_rules.specs.Server.{Reply, Session, is_named, mark_after, marks_of, name_of, remembered, with_session}
 use Rattle.server_rules.specs.Answer.{messages_judged}
-use Rattle.law_server_lives.specs.Lives.{Acceptance, acceptance_by, acceptance_of, request_of}
+use Rattle.law_server.specs.Lives.{Acceptance, acceptance_by, acceptance_of, request_of}
 use Rattle.law_moves.specs.Table as moves
 use Rattle.law_moves.specs.World.{World, IsAccepted}
 use Rattle.law_moves.specs.Lawful.{MayDecide}
 use Rattle.law_moves.specs.Move.{Move}
 use Rattle.law_moves.specs.Reached.{AreLawful, Reached, after_all}
-use Rattle.law_client_moves.specs.Sent.{WasSent}
+use Rattle.law_client.specs.Sent.{WasSent}
 use Rattle.law_server_moves.specs.Leading.{Leads}
 use Rattle.law_server_moves.specs.Servers.{AsksThere, HasSalt, IsAcceptedThere, IsStanding, IsSuch, IsUp, Past, ServerStands, WasJudged, with_history}
 use Rattle.law_server_moves.proofs.Lists.{each_of, first_or, here, later, map_all}

@@ -15,7 +15,7 @@ use Rattle.server_rules.specs.Sending.{seals, sends}
 use Rattle.law_moves.specs.Lawful.{BeginsNew}
 use Rattle.law_moves.specs.World.{World}
 use Rattle.law_moves.specs.Reached.{Reached, after_all}
-use Rattle.law_client_moves.specs.Packets.{item_there}
+use Rattle.law_client.specs.Packets.{item_there}
 use Rattle.law_server_moves.specs.Leading.{Leads}
 use Rattle.law_server_moves.specs.Servers.{CanSay, IsMade, IsStanding, Past, with_entries}
 use Rattle.law_server_moves.specs.Speaking.{IsSaid, SpeaksThere, StandsSpeaking, with_line}

@@ -21,7 +21,7 @@ use Rattle.server_rules.specs.Rows.{destroys, owes, row, settles}
 use Rattle.law_server.specs.Order.{HasNoJob, IsGoingOn, IsMidway, IsMidwayAt, IsOrderlyAt, IsTold, IsUnanswered, jobs_of, opens_of}
 use Rattle.law_server.specs.Going.{open_by, open_only}
 use Rattle.law_server.specs.Speech.{SaidFor}
-use Rattle.law_server_lives.specs.Lives.{request_of}
+use Rattle.law_server.specs.Lives.{request_of}
 use Rattle.law_moves.specs.Table as moves
 use Rattle.law_moves.specs.Table.Outcome.{AcceptedCall}
 use Rattle.law_moves.specs.World.{World, WasGiven}
@@ -29,7 +29,7 @@ use Rattle.law_moves.specs.Lawful.{WasNoCall}
 use Rattle.law_moves.specs.Move.{Move}
 use Rattle.law_moves.specs.Reached.{AreLawful, Reached, after_all}
 use Rattle.law_server_moves.specs.Leading.{Leads}
-use Rattle.law_client_moves.specs.Packets.{item_there}
+use Rattle.law_client.specs.Packets.{item_there}
 use Rattle.packing.specs.Numbering.{after_item}
 use Rattle.law_server_moves.specs.Servers.{AsksThere, CanSay, IsNoCall, Past, with_lost}
 use Rattle.law_server_moves.specs.Speaking.{IsPlain, IsDue, IsOpen, IsWithin, SpeaksThere, with_line}

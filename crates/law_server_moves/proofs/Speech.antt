@@ -15,7 +15,7 @@ use Rattle.law_moves.specs.World.{World}
 use Rattle.law_moves.specs.Move.{Move}
 use Rattle.law_moves.specs.Extends.{Extends}
 use Rattle.law_moves.specs.Reached.{AreLawful, after_all}
-use Rattle.law_client_moves.specs.Packets.{item_there}
+use Rattle.law_client.specs.Packets.{item_there}
 use Rattle.law_server_moves.specs.Leading.{Leads}
 use Rattle.law_server_moves.specs.Servers.{AsksThere, CanSay, GoOn, HasSame, IsJobOf, IsStanding, IsJobThere, Past, ServerStands, with_entries, with_replies}
 use Rattle.law_server_moves.specs.Speaking.{IsOpen, IsOwedThere, IsSaid, StandsSpeaking}

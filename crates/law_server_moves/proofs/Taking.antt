@@ -35,7 +35,7 @@ use Rattle.law_moves.specs.Table.Outcome.{AcceptedCall}
 use Rattle.law_server.specs.Order.{IsGoingOn, IsMidwayAt, IsOrderly, IsTold, jobs_of, opens_of}
 use Rattle.law_server.specs.Going.{none_open, open_only, past_in, past_with}
 use Rattle.law_server.specs.Speech.{SaidFor}
-use Rattle.law_server_lives.specs.Lives.{acceptance_by, acceptance_of, history_by, request_of}
+use Rattle.law_server.specs.Lives.{acceptance_by, acceptance_of, history_by, request_of}
 use Rattle.law_moves.specs.World.{World, WasGiven}
 use Rattle.law_moves.specs.Reached.{Reached, after_all}
 use Rattle.law_server_moves.specs.Leading.{Leads}

@@ -20,7 +20,7 @@ use Rattle.inbox.specs.Judging.{judge, unfolded}
 use Rattle.server_rules.specs.Answer.{message_in}
 use Rattle.server_rules.specs.Server.{remembered}
 use Rattle.law_moves.specs.Table as moves
-use Rattle.law_client_moves.specs.Sent.{Asks, IsPacketSent, WasSent}
+use Rattle.law_client.specs.Sent.{Asks, IsPacketSent, WasSent}
 use Rattle.world_rules.specs.Setting.{as_heard}
 use Rattle.law_server_moves.specs.Servers.{IsPacketUp, IsUp}
 use Rattle.law_server_moves.proofs.Asked.{Reading, asked}

@@ -31,11 +31,11 @@ use Rattle.server_rules.specs.Waiting.{gives_up, outlook, tells_of, told}
 use Rattle.server_rules.specs.Calls.{accepts_call, becomes_job, binds, binds_by, bool_true_content, dropped_running, drops_answer, drops_by, job_of, refusal, with_binding}
 use Rattle.server_rules.specs.Rows.{acked_by, accepts, acknowledges, acks_of, answers_broken, came_again, future_salt_of, kept_numbered, notices, owes, says_reply, sends_again, takes_acks, tells_salts, tells_states}
 use Rattle.server_rules.specs.Answer.{attaches, finishes, opens}
-use Rattle.law_server_lives.specs.Lives.{request_of}
+use Rattle.law_server.specs.Lives.{request_of}
 use Rattle.law_moves.specs.Table.Item.{Notice}
 use Rattle.law_moves.specs.World.{World, WasGiven}
 use Rattle.law_moves.specs.Reached.{after_all}
-use Rattle.law_client_moves.specs.Packets.{item_there}
+use Rattle.law_client.specs.Packets.{item_there}
 use Rattle.law_server_moves.specs.Leading.{Leads}
 use Rattle.law_server_moves.specs.Servers.{AsksThere, CanSay, GoOn, HasForgotten, HasNoticed, HasSalt, HasSame, IsJobThere, IsJobOf, IsNoCall, Past, has_dropped, with_entries, with_replies}
 use Rattle.law_server_moves.specs.Speaking.{AreOthersOpen, IsDue, IsOpen, IsPlain, IsSaid, IsWithin, SpeaksThere, StandsSpeaking, with_line}

@@ -5,11 +5,11 @@ use Rattle.service_tl.specs.declared.item.Item.{Item}
 use Rattle.service_tl.specs.declared.item.Item.TheVariants.{NewSessionCreated}
 use Rattle.service_tl.specs.declared.lists.Message.{Message}
 use Rattle.service_tl.specs.Items.{spelling_of}
-use Rattle.law_server_sizes.specs.Small.{IsSmallJudgement, IsSmallRow}
+use Rattle.law_server_bounds.specs.Small.{IsSmallJudgement, IsSmallRow}
 use Rattle.server_rules.specs.Server.{Name, Reply, Session, has_accepted, name_of}
 use Rattle.law_moves.specs.Table as moves
 use Rattle.law_moves.specs.World.{World}
-use Rattle.law_client_moves.specs.Packets.{item_there}
+use Rattle.law_client.specs.Packets.{item_there}
 use Rattle.packing.specs.Packing.{groups, packed}
 use Rattle.salt_line.specs.Line.{Line}
 use Rattle.server_rules.specs.Event.{Envelope, Owed, State}

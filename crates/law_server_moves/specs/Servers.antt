@@ -5,8 +5,8 @@ use Rattle.std.specs.List.{AllByRecursion, Contains, list_any}
 use Rattle.salt_line.specs.Rows.{Row}
 use Rattle.service_tl.specs.declared.lists.Message.{Message}
 use Rattle.inbox.specs.Kinds.{item_told}
-use Rattle.law_server_lives.specs.Lives.{Acceptance, request_of}
-use Rattle.law_client_moves.specs.Sent.{WasSent}
+use Rattle.law_server.specs.Lives.{Acceptance, request_of}
+use Rattle.law_client.specs.Sent.{WasSent}
 use Rattle.id_window.specs.History.{History, FirstJudgement, Outcome, Refused, floor}
 use Rattle.waits.specs.declared.job.Unfinished.{Unfinished}
 use Rattle.waits.specs.Jobs.{Queue, is_of}

@@ -12,9 +12,9 @@ use Rattle.waits.specs.declared.job.Unfinished.{Unfinished}
 use Rattle.waits.specs.Jobs.{Queue, is_of}
 use Rattle.server_rules.specs.Server.{Reply, Session, name_of, with_session}
 use Rattle.server_rules.specs.Event.{Owed, Speaker}
-use Rattle.law_server_lives.specs.Lives.{request_of}
+use Rattle.law_server.specs.Lives.{request_of}
 use Rattle.law_moves.specs.World.{World, WasGiven}
-use Rattle.law_client_moves.specs.Packets.{item_there}
+use Rattle.law_client.specs.Packets.{item_there}
 use Rattle.law_server_moves.specs.Servers.{AsksThere, CanSay, HasForgotten, HasNoticed, IsNoCall, Past, ServerStands, WasAnswered, with_entries}
 
 -- ---- what is said

@@ -19,7 +19,7 @@ ghost use Rattle.server_rules.specs.Rows.{acked_by, owes};
 ghost use Rattle.server_rules.specs.Speaking.{dropped, made_room};
 ghost use Rattle.server_rules.specs.Waiting.{Outlook, gives_up, told};
 ghost use Rattle.server_rules.specs.Answer.{after_loss, after_restart, attaches, begun, finishes, hears, message_in, messages_judged, name_in, opens, runs, session_for, takes_by, ticks, without_spent};
-ghost use Rattle.law_server_lives.specs.Lives.{acceptance_of};
+ghost use Rattle.law_server.specs.Lives.{acceptance_of};
 ghost use Rattle.law_moves.specs.Table as moves;
 ghost use Rattle.law_moves.specs.Table.{Message};
 ghost use Rattle.law_moves.specs.Table.Outcome.{AcceptedCall};
@@ -35,7 +35,7 @@ ghost use Rattle.inbox.specs.declared.judged.Judgement.{Judgement};
 ghost use Rattle.inbox.specs.declared.judged.Verdict.{Verdict};
 ghost use Rattle.packing.specs.Packing.{groups};
 ghost use Rattle.server_rules.specs.Sending.{all_sent, sends};
-ghost use Rattle.law_server_sizes.specs.Small.{AreSmall, DrawsWords, GivesReplies, IsSmallEnvelope};
+ghost use Rattle.law_server_bounds.specs.Small.{AreSmall, DrawsWords, GivesReplies, IsSmallEnvelope};
 ghost use Rattle.law_server_moves.specs.Sending.{EventEnds, IsFit, IsSpoken, MayAllGo, MayGo, WentOut};
 ghost use Rattle.law_server_moves.specs.Events.{AreLines, AreLost, AreOpenJobs, EventStands, lined, with_lines};
 ghost use Rattle.law_server.specs.Order.{AreOrdered, IsGoingOn};
@@ -52,8 +52,8 @@ ghost use Rattle.law_server_moves.specs.Worlds.{HasServed, StandsIn};
 ghost use Rattle.tl_codec.specs.Standard.{bytes_max};
 ghost use Rattle.envelope.specs.declared.parts.Envelope.{Envelope as Sealed};
 ghost use Rattle.envelope.specs.Packet.{IsEnvelope};
-ghost use Rattle.law_client_moves.specs.Sent.{IsPacketSent};
-ghost use Rattle.law_client_moves.specs.Packets.{packet_items};
+ghost use Rattle.law_client.specs.Sent.{IsPacketSent};
+ghost use Rattle.law_client.specs.Packets.{packet_items};
 ghost use Rattle.containers.specs.Container.{IsContainer, begins_container};
 
 use draws::Draw;
@@ -396,7 +396,7 @@ pub fn packets_are_taken_by_moves<D: Draw>()
     numbers_are_given_once();
     packing::laws::packets_have_all_messages();
     law_server::laws::new_sessions_say_so::<D>();
-    law_server_lives::laws::new_sessions_owe_little::<D>();
+    law_server::lives::new_sessions_owe_little::<D>();
 }
 
 /// What the server of a world does in an event is a list of lawful moves, after which the server behind the event stands
@@ -429,8 +429,8 @@ pub fn events_of_worlds_are_moves<D: Draw, V>()
     numbers_are_given_once();
     what_was_not_made_is_blank();
     packing::laws::packets_have_all_messages();
-    law_server_sizes::laws::what_is_owed_is_small::<D>();
-    law_server_sizes::laws::packets_are_whole::<D, V>();
+    law_server_bounds::sizes::what_is_owed_is_small::<D>();
+    law_server_bounds::sizes::packets_are_whole::<D, V>();
     law_server::laws::sessions_speak_for_themselves::<D>();
     law_server::laws::new_sessions_say_so::<D>();
 }
@@ -458,10 +458,10 @@ pub fn packets_of_worlds_are_moves<D: Draw, V>()
     names_are_apart();
     what_was_not_made_is_blank();
     packing::laws::packets_have_all_messages();
-    law_server_sizes::laws::what_is_owed_is_small::<D>();
-    law_server_sizes::laws::packets_are_whole::<D, V>();
+    law_server_bounds::sizes::what_is_owed_is_small::<D>();
+    law_server_bounds::sizes::packets_are_whole::<D, V>();
     law_server::laws::new_sessions_say_so::<D>();
-    law_server_lives::laws::new_sessions_owe_little::<D>();
+    law_server::lives::new_sessions_owe_little::<D>();
 }
 
 /// What a server may judge of a packet that a client sent was sent there: the body of each message in it asks what the server

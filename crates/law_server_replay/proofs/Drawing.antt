@@ -27,7 +27,7 @@ use Rattle.server_rules.specs.Waiting.{after_failures, after_timeouts, all_given
 use Rattle.server_rules.specs.Rows.{destroys, owes, row, settles}
 use Rattle.server_rules.specs.Sending.{all_sent, messages_by, names_in, padding_bytes, seals, sends}
 use Rattle.server_rules.specs.Answer.{after_attach, after_packet, after_run, after_tick, after_work, attaches, begun, ended, finishes, hears, hears_by, is_spent, message_in, messages_judged, name_in, opens, runs, takes, takes_by, ticks, with_place, without_first}
-use Rattle.law_server_lives.specs.Drawing.{DrawsSalts}
+use Rattle.law_server.specs.Drawing.{DrawsSalts}
 
 -- what is known of what a session says: it draws words for its salts alone
 pub record OfSalts (S : Type 0) : Type 0 where

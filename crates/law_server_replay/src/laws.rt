@@ -25,7 +25,7 @@ pub fn events_draw_words<D: Draw, V>()
     ensures work { (setting : Setting D) (place : ℕ) (serve : Step V) (service : V) (server : Server) (draw : D)
         → (words : ℕ) × ((after_work setting place serve service server draw).0.draw ≡ draw_after setting.step words draw) }
 {
-    law_server_lives::laws::sessions_draw_salts::<D>();
+    law_server::lives::sessions_draw_salts::<D>();
 }
 
 /// A tick and an attach of a server in order, each of whose sessions has room for an event, change nothing but the moment and

@@ -1,6 +1,6 @@
 -- Message identifiers and sequence numbers (core.telegram.org/mtproto/description, "Message Identifier" and
 -- "Message Sequence Number").
-use Rattle.std.specs.Prelude.{ℕ, ◌+◌, ◌-◌, ◌*◌, ◌/◌, ◌^◌, ◌<◌, ◌≤◌, ◌⊎◌, Bool, true, false, min, max}
+use Rattle.std.specs.Prelude.{ℕ, ◌+◌, ◌-◌, ◌*◌, ◌/◌, ◌%◌, ◌==◌, ◌^◌, ◌<◌, ◌≤◌, ◌⊎◌, Bool, true, false, min, max}
 use Rattle.msg_ids.specs.Moments.{latest_moment}
 
 -- what a sender has given so far: its last number, 0 before the first, and how many content-related messages it made
@@ -25,6 +25,10 @@ one_if_content false = 0
 -- message is content-related"
 abbrev pub seq_of : ℕ → Bool → ℕ
 seq_of content_before content = 2 * content_before + one_if_content content
+
+-- as the seq of a content-related message is, and the message identifier of each message from the server
+abbrev pub is_odd : ℕ → Bool
+is_odd number = number % 2 == 1
 
 -- the greatest multiple of 4 of 64 bits
 abbrev pub greatest_number : ℕ

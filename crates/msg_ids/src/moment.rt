@@ -1,6 +1,6 @@
 //! Moments.
 
-ghost use Rattle.std.specs.Prelude.{◌≡◌, ◌≤◌};
+ghost use Rattle.std.specs.Prelude.{◌≡◌, ◌≤◌, max};
 ghost use Rattle.msg_ids.specs.Moments.{latest_moment, moment_of};
 
 use std::marker::Model;
@@ -43,5 +43,16 @@ impl Moment {
         ensures bound { result ≤ latest_moment }
     {
         self.seconds
+    }
+
+    /// The later of two moments.
+    pub fn later(self, other: Moment) -> Moment
+        ensures { result ≡ max self other }
+    {
+        if self.seconds < other.seconds {
+            other
+        } else {
+            self
+        }
     }
 }

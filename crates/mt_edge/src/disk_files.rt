@@ -78,6 +78,8 @@ pub(crate) fn after_file(got: &FileGot, faults: u64) -> u64
 impl<R: Files + Drop> KeyFiles for DiskFiles<R> {
     ghost told = { λ _. None };
 
+    ghost room = { λ _. 0 };
+
     ghost faults = { λ files. files.faults };
 
     fn read(&mut self, alloc: Global, name: &str) -> FileGot {

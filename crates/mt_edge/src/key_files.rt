@@ -1,6 +1,6 @@
 //! Files that are read whole, by name.
 
-ghost use Rattle.std.specs.Prelude.{◌≡◌, ◌≢◌, ◌≤◌, ℕ, Option, length, IfSome, IsSome, IsSomeAnd};
+ghost use Rattle.std.specs.Prelude.{◌≡◌, ◌≢◌, ◌<◌, ◌≤◌, ◌+◌, ℕ, Option, length, IfSome, IsSome, IsSomeAnd};
 ghost use Rattle.mt_edge.specs.Files.{Asks, Counts, FilesTold, IfContents};
 
 use octets::Octets;
@@ -51,10 +51,14 @@ impl fmt::Debug for FileGot {
     }
 }
 
-/// Files that are read whole. What they tell now, they told before each call.
+/// Files that are read whole. What they tell now, they told before each call. A read that gives contents leaves them
+/// telling; so does one that fails while there is room to note it, and the first one.
 pub trait KeyFiles {
     /// The files by name, and the names that were asked for, where they are told.
     ghost told: { Self → Option FilesTold };
+
+    /// How many more reads they can note, failed ones among them.
+    ghost room: { Self → ℕ };
 
     /// How many reads have failed. It stays at 2^64 - 1 once it is there.
     ghost faults: { Self → ℕ };
@@ -65,6 +69,8 @@ pub trait KeyFiles {
         ensures told { IfSome (told self.new) (λ after. IsSomeAnd (told self.old) (λ before. Asks result name.now before after)) }
         ensures goes_on { IfContents result (λ _. IsSome (told self.old) → IsSome (told self.new)) }
         ensures first_fault { IsSome (told self.old) → result ≡ FileGot.Failed → faults self.old ≡ 0 → IsSome (told self.new) }
+        ensures still_tells { IsSome (told self.old) → result ≢ FileGot.Memory → 0 < room self.old → IsSome (told self.new) }
+        ensures room { room self.old ≤ room self.new + 1 }
         ensures never_falls { faults self.old ≤ faults self.new }
         ensures counted { Counts result (faults self.old) (faults self.new) };
 }

@@ -1,6 +1,6 @@
 //! Files in memory, for tests.
 
-ghost use Rattle.std.specs.Prelude.{◌≡◌, ◌<◌, ◌≤◌, ◌+◌, [], None, Some, length, vec_len, vec_capacity, if◌then◌else◌, IfOk};
+ghost use Rattle.std.specs.Prelude.{◌≡◌, ◌<◌, ◌≤◌, ◌+◌, ◌-◌, [], None, Some, length, vec_len, vec_capacity, if◌then◌else◌, IfOk};
 ghost use Rattle.std.specs.List.{Contains};
 ghost use Rattle.mt_edge.specs.Files.{IfContents};
 
@@ -75,6 +75,8 @@ fn contents_of(alloc: Global, files: &[NamedFile], name: &[u8]) -> FileGot
 
 impl KeyFiles for MemFiles {
     ghost told = { λ files. if files.is_untold then None else Some (record { files = files.files.items; asked = files.asked.items }) };
+
+    ghost room = { λ files. files.room - vec_len files.asked };
 
     ghost faults = { λ files. files.faults };
 

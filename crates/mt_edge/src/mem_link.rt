@@ -1,6 +1,6 @@
 //! A link in memory, for tests.
 
-ghost use Rattle.std.specs.Prelude.{◌≡◌, ◌≢◌, ◌<◌, ◌≤◌, ◌+◌, [], None, Some, length, take, drop, min, vec_len, vec_capacity, false, if◌then◌else◌, IfOk, IfSome, IsSome, IsSomeAnd, MatchOption};
+ghost use Rattle.std.specs.Prelude.{◌≡◌, ◌≢◌, ◌<◌, ◌≤◌, ◌+◌, ◌-◌, [], None, Some, length, take, drop, min, vec_len, vec_capacity, false, if◌then◌else◌, IfOk, IfSome, IsSome, IsSomeAnd, MatchOption};
 ghost use Rattle.mt_edge.specs.Faults.{one_more};
 ghost use Rattle.mt_edge.specs.Got.{IsWithin};
 ghost use Rattle.mt_edge.specs.Links.{IsFresh, ReadsOver};
@@ -142,6 +142,9 @@ impl MemLink {
         ensures told { IfSome (⟦<MemLink as Link>⟧.told self.new) (λ after. IsSomeAnd (⟦<MemLink as Link>⟧.told self.old) (λ before.
             ReadsOver Got.Failed into.now before after)) }
         ensures first_fault { IsSome (⟦<MemLink as Link>⟧.told self.old) → self.old.faults ≡ 0 → IsSome (⟦<MemLink as Link>⟧.told self.new) }
+        ensures still_tells { IsSome (⟦<MemLink as Link>⟧.told self.old) → vec_len self.old.reads < self.old.reads_room → IsSome (⟦<MemLink as Link>⟧.told self.new) }
+        ensures one_place { vec_len self.new.reads ≤ vec_len self.old.reads + 1 }
+        ensures same_room { self.new.reads_room ≡ self.old.reads_room }
         ensures same_standing { ⟦<MemLink as Link>⟧.standing self.new ≡ ⟦<MemLink as Link>⟧.standing self.old }
         ensures never_falls { self.old.faults ≤ self.new.faults }
         ensures counted { self.new.faults ≡ one_more self.old.faults }
@@ -165,6 +168,8 @@ impl MemLink {
         ensures told { IfSome (⟦<MemLink as Link>⟧.told self.new) (λ after. IsSomeAnd (⟦<MemLink as Link>⟧.told self.old) (λ before.
             ReadsOver result into.new before after)) }
         ensures goes_on { IsSome (⟦<MemLink as Link>⟧.told self.old) → IsSome (⟦<MemLink as Link>⟧.told self.new) }
+        ensures one_place { vec_len self.new.reads ≤ vec_len self.old.reads + 1 }
+        ensures same_room { self.new.reads_room ≡ self.old.reads_room }
         ensures same_standing { ⟦<MemLink as Link>⟧.standing self.new ≡ ⟦<MemLink as Link>⟧.standing self.old }
         ensures counted { self.new.faults ≡ self.old.faults }
     {
@@ -203,6 +208,8 @@ impl Link for MemLink {
     }) };
 
     ghost standing = { λ link. record { place = link.place; closed = link.is_closed } };
+
+    ghost room = { λ link. link.reads_room - vec_len link.reads };
 
     ghost faults = { λ link. link.faults };
 

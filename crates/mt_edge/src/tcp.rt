@@ -31,6 +31,8 @@ impl<S: Read + Write + OpenStream + Drop> Link for TcpLink<S> {
 
     ghost standing = { λ link. record { place = 0; closed = link.is_closed } };
 
+    ghost room = { λ _. 0 };
+
     ghost faults = { λ link. link.faults };
 
     #[tactic(auto, using(crate::proofs::HandLemmas::none_handed))]

@@ -1,5 +1,5 @@
 -- What the program promises, by the command that the words say.
-use Rattle.std.specs.Prelude.{◌≡◌, Bool, List, ℕ, ⊤}
+use Rattle.std.specs.Prelude.{◌≡◌, Bool, List, ℕ}
 use Rattle.cmd_call.specs.Owed.{Around, Files, IsIdle}
 use Rattle.cmd_call.specs.Runs.{CallRun}
 use Rattle.cmd_check.specs.Runs.{CheckRun}
@@ -14,8 +14,10 @@ use Rattle.commands.specs.declared.command.Command.TheVariants as command
 use Rattle.commands.specs.declared.command.PairOptions.{PairOptions}
 use Rattle.commands.specs.declared.command.RelayOptions.{RelayOptions}
 use Rattle.commands.specs.declared.command.ServeOptions.{ServeOptions}
+use Rattle.disks.specs.Named.{NamesTold}
 use Rattle.mt_edge.specs.declared.net_call.NetCall.{NetCall}
 use Rattle.cmd_sim.specs.Runs.{LoadRun, SimRun}
+use Rattle.cmd_serve.specs.Journals.{Drawing}
 use Rattle.cmd_serve.specs.Runs.{Draws, Moments, ServeRun}
 use Rattle.statuses.specs.Outside.{IsUntouched, Outside, Part, PlainRun}
 use Rattle.statuses.specs.declared.status.Status.{Status}
@@ -41,6 +43,10 @@ pub record AreOffline (words : List (List ℕ)) : Type 0 where
 abbrev pub AreWithoutChildren : List (List ℕ) → Type 0
 AreWithoutChildren words = (options : PairOptions) → Says words (command.Pair options) → ⊥
 
+-- the words don't say `serve`
+abbrev pub AreWithoutDisks : List (List ℕ) → Type 0
+AreWithoutDisks words = (options : ServeOptions) → Says words (command.Serve options) → ⊥
+
 -- files, net, clock and drawn words are as they were
 pub record IsApart {F N C D : Type 0} (files : Files F) (around : Around N C D) : Type 0 where
   pub files_stay : files.after ≡ files.before
@@ -63,29 +69,33 @@ moments_of around = record { before = around.given around.clock; after = around.
 abbrev pub draws_of : {N C D : Type 0} → Around N C D → Draws D
 draws_of around = record { before = around.draw; after = around.draw_then }
 
-abbrev pub Obeys : {S O F N C D P : Type 0} → Command → Outside S → Outside O → Files F → Around N C D → Kids P → Status → Type 0
-Obeys (command.Sim wire) input out files around kids one = SimRun wire input out one
-Obeys (command.Load calls) input out files around kids one = LoadRun calls out one
-Obeys (command.Serve options) input out files around kids one = ServeRun around.step options files (net_part around) out (moments_of around) (draws_of around) one
-Obeys (command.Call options) input out files around kids one = CallRun options input out files around one
-Obeys (command.Pair options) input out files around kids one = PairRun options input out files around kids one
-Obeys command.Check input out files around kids one = CheckRun input out one
-Obeys (command.Relay options) input out files around kids one = RelayRun options.form options.secret input out one
-Obeys (command.Help page) input out files around kids one = PlainRun out status.Done (page_text page) one
-Obeys command.Version input out files around kids one = PlainRun out status.Done version_text one
+abbrev pub Obeys : {S O F N C D P K : Type 0} → Drawing D → Command → Outside S → Outside O → Files F → Around N C D → Kids P → Part NamesTold K → Status → Type 0
+Obeys drawing (command.Sim wire) input out files around kids disks one = SimRun wire input out one
+Obeys drawing (command.Load calls) input out files around kids disks one = LoadRun calls out one
+Obeys drawing (command.Serve options) input out files around kids disks one = ServeRun drawing options files (net_part around) out (moments_of around) (draws_of around) disks one
+Obeys drawing (command.Call options) input out files around kids disks one = CallRun options input out files around one
+Obeys drawing (command.Pair options) input out files around kids disks one = PairRun options input out files around kids one
+Obeys drawing command.Check input out files around kids disks one = CheckRun input out one
+Obeys drawing (command.Relay options) input out files around kids disks one = RelayRun options.form options.secret input out one
+Obeys drawing (command.Help page) input out files around kids disks one = PlainRun out status.Done (page_text page) one
+Obeys drawing command.Version input out files around kids disks one = PlainRun out status.Done version_text one
 
 -- no call of the spawner was made
 abbrev pub IsAlone : {P : Type 0} → Kids P → Type 0
 IsAlone kids = kids.after ≡ kids.before
 
+-- no file of a journal was opened
+abbrev pub IsUnopened : {K : Type 0} → Part NamesTold K → Type 0
+IsUnopened disks = disks.after ≡ disks.before
+
 -- what a command leaves alone
-abbrev pub Stays : {S F N C D P : Type 0} → Command → Outside S → Files F → Around N C D → Kids P → Type 0
-Stays (command.Sim wire) input files around kids = IsApart files around × IsAlone kids
-Stays (command.Load calls) input files around kids = IsUntouched input × IsApart files around × IsAlone kids
-Stays (command.Serve options) input files around kids = IsUntouched input × IsAlone kids
-Stays (command.Call options) input files around kids = IsAlone kids
-Stays (command.Pair options) input files around kids = ⊤
-Stays command.Check input files around kids = IsApart files around × IsAlone kids
-Stays (command.Relay options) input files around kids = IsApart files around × IsAlone kids
-Stays (command.Help page) input files around kids = IsUntouched input × IsApart files around × IsAlone kids
-Stays command.Version input files around kids = IsUntouched input × IsApart files around × IsAlone kids
+abbrev pub Stays : {S F N C D P K : Type 0} → Command → Outside S → Files F → Around N C D → Kids P → Part NamesTold K → Type 0
+Stays (command.Sim wire) input files around kids disks = IsApart files around × IsAlone kids × IsUnopened disks
+Stays (command.Load calls) input files around kids disks = IsUntouched input × IsApart files around × IsAlone kids × IsUnopened disks
+Stays (command.Serve options) input files around kids disks = IsUntouched input × IsAlone kids
+Stays (command.Call options) input files around kids disks = IsAlone kids × IsUnopened disks
+Stays (command.Pair options) input files around kids disks = IsUnopened disks
+Stays command.Check input files around kids disks = IsApart files around × IsAlone kids × IsUnopened disks
+Stays (command.Relay options) input files around kids disks = IsApart files around × IsAlone kids × IsUnopened disks
+Stays (command.Help page) input files around kids disks = IsUntouched input × IsApart files around × IsAlone kids × IsUnopened disks
+Stays command.Version input files around kids disks = IsUntouched input × IsApart files around × IsAlone kids × IsUnopened disks

@@ -20,7 +20,7 @@ ghost use Rattle.statuses.specs.Lines.{words_refused};
 ghost use Rattle.statuses.specs.Outside.{PlainRun};
 ghost use Rattle.statuses.specs.Statuses.{EndsBy};
 ghost use Rattle.statuses.specs.declared.status.Status.TheVariants as status;
-ghost use Rattle.mtp_app.specs.Obeys.{AreOffline, AreWithoutChildren, AreWithoutInput, IsUnbegun, Obeys, Stays};
+ghost use Rattle.mtp_app.specs.Obeys.{AreOffline, AreWithoutChildren, AreWithoutDisks, AreWithoutInput, IsUnbegun, Obeys, Stays};
 
 use cmd_call::run_call;
 use cmd_check::laws::memory_may_run_out as memory_may_end_a_check;
@@ -33,6 +33,7 @@ use cmd_sim::laws::memory_may_run_out;
 use cmd_sim::{run_load, run_sim};
 use commands::laws::one_reading;
 use commands::{Command, WordsFault, read, version};
+use disks::Disks;
 use mt_edge::{Clock, KeyFiles, Net, Seeded, Sink, Source, Spawner};
 use statuses::{Answer, Status, tell};
 use std::alloc::Global;
@@ -44,7 +45,7 @@ const WORDS_REFUSED: &str = "words refused\n";
 ///
 /// - `sim [--wire]` reads a schedule to its end and writes the report of its world, with `--wire` also a line on all packets.
 /// - `load N` plays the large schedule of so many calls and writes one line that sums it up.
-/// - `serve --keys F --port P --conns N [--stop-after K]` serves connections of the net.
+/// - `serve --keys F --port P --conns N [--stop-after K] [--journal F]` serves connections of the net.
 /// - `call --keys F --key ID --port P --form FORM [--obfuscate] [--retries R] [--perm ID]` reads a script and runs it as one
 ///   batch over connections of the net.
 /// - `pair --keys F --key ID --port P --stop-after K` reads a script, starts a server that stops behind K packets, and runs it as
@@ -60,8 +61,18 @@ const WORDS_REFUSED: &str = "words refused\n";
 /// written. 5: the key file isn't read or is refused, or lacks a key. 6: each call is decided, and one isn't done. 7: more
 /// connections were lost than may be. 8: one connection gave as many pieces as it may. 9: memory ran out. 10: a client has
 /// something to send and fewer than 2,048 numbers left. 11: no connections can be taken, or a server can't be started, read or
-/// waited for. 13: a sentence about the trace doesn't hold.
-pub fn run<S: Source, O: Sink, F: KeyFiles, N: Net, P: Spawner, C: Clock, D: Seeded>(
+/// waited for. 12: the file of the journal can't be opened, is neither empty nor a journal, or is full, or a call of it failed.
+/// 13: a sentence about the trace doesn't hold.
+pub fn run<
+    S: Source,
+    O: Sink,
+    F: KeyFiles,
+    N: Net,
+    P: Spawner,
+    C: Clock,
+    D: Seeded + Drop,
+    K: Disks,
+>(
     alloc: Global,
     words: &[String],
     input: &mut S,
@@ -71,22 +82,26 @@ pub fn run<S: Source, O: Sink, F: KeyFiles, N: Net, P: Spawner, C: Clock, D: See
     kids: &mut P,
     clock: &mut C,
     draw: &mut D,
+    disks: &mut K,
 ) -> u8
+where
+    K::K: Drop,
     ensures sim { (wire : Bool) → Says (map string_bytes words.now) (command.Sim wire) → EndsBy result (SimRun wire
         (record { told = S.left; faults = S.faults; before = input.old; after = input.new })
         (record { told = O.written; faults = O.faults; before = out.old; after = out.new })) }
     ensures load { (calls : ℕ) → Says (map string_bytes words.now) (command.Load calls) → EndsBy result (LoadRun calls
         (record { told = O.written; faults = O.faults; before = out.old; after = out.new })) }
     // Memory may run out while the words are read; then the command isn't begun.
-    ensures serve { (options : ServeOptions) → Says (map string_bytes words.now) (command.Serve options) → EndsBy result (λ one. ServeRun D.step options
+    ensures serve { (options : ServeOptions) → Says (map string_bytes words.now) (command.Serve options) → EndsBy result (λ one. ServeRun (record { step = D.step; standing_at = D.standing_at; place_of = D.place_of }) options
         (record { told = F.told; faults = F.faults; before = files.old; after = files.new })
         (record { told = N.calls; faults = N.faults; before = net.old; after = net.new })
         (record { told = O.written; faults = O.faults; before = out.old; after = out.new })
         (record { before = C.given clock.old; after = C.given clock.new })
-        (record { before = draw.old; after = draw.new }) one ⊎ IsUnbegun
+        (record { before = draw.old; after = draw.new })
+        (record { told = K.told; faults = K.faults; before = disks.old; after = disks.new }) one ⊎ (IsUnbegun
         (record { told = O.written; faults = O.faults; before = out.old; after = out.new })
         (record { told = F.told; faults = F.faults; before = files.old; after = files.new })
-        (record { calls = N.calls; room = N.room; faults = N.faults; given = C.given; step = D.step; net = net.old; net_then = net.new; clock = clock.old; clock_then = clock.new; draw = draw.old; draw_then = draw.new }) one) }
+        (record { calls = N.calls; room = N.room; faults = N.faults; given = C.given; step = D.step; net = net.old; net_then = net.new; clock = clock.old; clock_then = clock.new; draw = draw.old; draw_then = draw.new }) one × (disks.new ≡ disks.old))) }
     ensures call { (options : CallOptions) → Says (map string_bytes words.now) (command.Call options) → EndsBy result (λ one. CallRun options
         (record { told = S.left; faults = S.faults; before = input.old; after = input.new })
         (record { told = O.written; faults = O.faults; before = out.old; after = out.new })
@@ -122,20 +137,25 @@ pub fn run<S: Source, O: Sink, F: KeyFiles, N: Net, P: Spawner, C: Clock, D: See
     // Only `serve`, `call` and `pair` use files, the net, the clock or drawn words, and only `pair` starts children.
     ensures offline { AreOffline (map string_bytes words.now) → (files.new ≡ files.old) × (net.new ≡ net.old) × (clock.new ≡ clock.old) × (draw.new ≡ draw.old) }
     ensures alone { AreWithoutChildren (map string_bytes words.now) → kids.new ≡ kids.old }
+    // Only `serve` opens the file of a journal.
+    ensures unopened { AreWithoutDisks (map string_bytes words.now) → disks.new ≡ disks.old }
 {
     one_reading();
     memory_may_run_out::<S, O>();
     memory_may_end_a_check::<S, O>();
     memory_may_end_a_relay::<S, O>();
     match read(alloc, words) {
-        Ok(command) => obey(alloc, &command, input, out, files, net, kids, clock, draw).number(),
+        Ok(command) => obey(
+            alloc, &command, input, out, files, net, kids, clock, draw, disks,
+        )
+        .number(),
         Err(WordsFault::Refused) => plain(alloc, Status::WordsRefused, WORDS_REFUSED, out).number(),
         Err(WordsFault::Memory) => Status::Memory.number(),
     }
 }
 
 /// Carries out a command.
-fn obey<S: Source, O: Sink, F: KeyFiles, N: Net, P: Spawner, C: Clock, D: Seeded>(
+fn obey<S: Source, O: Sink, F: KeyFiles, N: Net, P: Spawner, C: Clock, D: Seeded + Drop, K: Disks>(
     alloc: Global,
     command: &Command,
     input: &mut S,
@@ -145,25 +165,30 @@ fn obey<S: Source, O: Sink, F: KeyFiles, N: Net, P: Spawner, C: Clock, D: Seeded
     kids: &mut P,
     clock: &mut C,
     draw: &mut D,
+    disks: &mut K,
 ) -> Status
+where
+    K::K: Drop,
     requires { IsLawful command.now }
-    ensures obeys { Obeys command.now
+    ensures obeys { Obeys (record { step = D.step; standing_at = D.standing_at; place_of = D.place_of }) command.now
         (record { told = S.left; faults = S.faults; before = input.old; after = input.new })
         (record { told = O.written; faults = O.faults; before = out.old; after = out.new })
         (record { told = F.told; faults = F.faults; before = files.old; after = files.new })
         (record { calls = N.calls; room = N.room; faults = N.faults; given = C.given; step = D.step; net = net.old; net_then = net.new; clock = clock.old; clock_then = clock.new; draw = draw.old; draw_then = draw.new })
         (record { calls = P.calls; faults = P.faults; before = kids.old; after = kids.new })
+        (record { told = K.told; faults = K.faults; before = disks.old; after = disks.new })
         result }
     ensures stays { Stays command.now
         (record { told = S.left; faults = S.faults; before = input.old; after = input.new })
         (record { told = F.told; faults = F.faults; before = files.old; after = files.new })
         (record { calls = N.calls; room = N.room; faults = N.faults; given = C.given; step = D.step; net = net.old; net_then = net.new; clock = clock.old; clock_then = clock.new; draw = draw.old; draw_then = draw.new })
-        (record { calls = P.calls; faults = P.faults; before = kids.old; after = kids.new }) }
+        (record { calls = P.calls; faults = P.faults; before = kids.old; after = kids.new })
+        (record { told = K.told; faults = K.faults; before = disks.old; after = disks.new }) }
 {
     match command {
         Command::Sim { wire } => run_sim(alloc, *wire, input, out),
         Command::Load { calls } => run_load(alloc, *calls, out),
-        Command::Serve(options) => run_serve(alloc, options, out, files, net, clock, draw),
+        Command::Serve(options) => run_serve(alloc, options, out, files, net, clock, draw, disks),
         Command::Call(options) => run_call(alloc, options, input, out, files, net, clock, draw),
         Command::Pair(options) => run_pair(
             alloc, options, input, out, files, net, kids, clock, draw,

@@ -8,8 +8,8 @@ use Rattle.std.proofs.lemmas.List.Sums.{passes_at_first}
 use Rattle.std.proofs.lemmas.List.Folds.{find-append}
 use Rattle.outbox.specs.declared.kept.Kept.{Kept}
 use Rattle.outbox.specs.declared.rows.Answered.{Answered}
-use Rattle.outbox.specs.Replies.{Replies, by_call, by_number, with_kept, without_number}
-use Rattle.outbox.specs.Places.{IsAbove, IsBelow, Rises, EachOnce, inserted, numbers_of, calls_of, number_answering, number_to, AreInOrder, GoesOn}
+use Rattle.outbox.specs.Replies.{EachOnce, Replies, by_call, by_number, with_kept, without_number}
+use Rattle.outbox.specs.Places.{IsAbove, IsBelow, Rises, inserted, numbers_of, calls_of, number_answering, number_to, AreInOrder, GoesOn}
 use Rattle.outbox.proofs.RemoveLemmas.{found_at, none_found, found_removed, some_found, rises_removed, once_removed, once_rising, gone}
 
 abbrev pub reply_call : Kept → ℕ

@@ -4,7 +4,8 @@ use Rattle.std.specs.List.{position_or_len, position, find, slice_get}
 use Rattle.std.proofs.lemmas.Bool.{cases_Bool, cases_lt, cases_eq, lt-ltb, le-ltb, eq-eqb, ne_eqb}
 use Rattle.std.proofs.lemmas.List.Folds.{find_at}
 use Rattle.std.proofs.lemmas.Option.{slice_get-get_or}
-use Rattle.outbox.specs.Places.{IsAbove, Rises, EachOnce}
+use Rattle.outbox.specs.Replies.{EachOnce}
+use Rattle.outbox.specs.Places.{IsAbove, Rises}
 
 -- ---- any test
 

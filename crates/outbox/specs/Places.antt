@@ -1,7 +1,7 @@
 -- What the code keeps true beside the list of replies. Scaffolding for proofs: no public contract stands on it.
 use Rattle.std.specs.Prelude.{◌≡◌, ℕ, ◌+◌, ◌-◌, ◌<◌, ◌^◌, nat_lt, nat_le, ◌==◌, Bool, true, if◌then◌else◌, Option, None, option_map, List, [], ◌∷◌, length, map, find}
 use Rattle.outbox.specs.declared.rows.Answered.{Answered}
-use Rattle.outbox.specs.Replies.{Replies, by_call, bytes_of, kept_replies_max, IsWithin}
+use Rattle.outbox.specs.Replies.{EachOnce, Replies, by_call, bytes_of, kept_replies_max, IsWithin}
 
 -- each of these numbers is above this one
 abbrev pub IsAbove : ℕ → List ℕ → Type 0
@@ -37,11 +37,6 @@ number_answering call answered = option_map (λ one. one.number) (find (λ one. 
 -- the number of the first reply to a call
 abbrev pub number_to : ℕ → Replies → Option ℕ
 number_to call replies = option_map (λ kept. kept.number) (by_call call replies)
-
--- no two entries have one key
-abbrev pub EachOnce : {X : Type 0} → (X → ℕ) → List X → Type 0
-EachOnce key [] = Unit {0}
-EachOnce key (x ∷ xs) = (find (λ other. key other == key x) xs ≡ None) × EachOnce key xs
 
 -- the numbers rise in order of making, as those of a server session do, each call has one reply, and the index has
 -- these calls in ascending order with the numbers of their replies

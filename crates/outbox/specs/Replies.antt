@@ -1,7 +1,7 @@
 -- The kept replies of a server session: a list in order of making, until each is acknowledged or dropped
 -- (core.telegram.org/mtproto/service_messages_about_messages, "Acknowledgment of Receipt"; how many are kept is this
 -- project's choice).
-use Rattle.std.specs.Prelude.{ℕ, ◌+◌, ◌≤◌, nat_lt, nat_le, ◌==◌, ◌&&◌, if◌then◌else◌, Bool, Option, None, option_map, List, [], ◌∷◌, ◌++◌, length, drop, sum_by, find, slice_get}
+use Rattle.std.specs.Prelude.{◌≡◌, ℕ, ◌+◌, ◌≤◌, nat_lt, nat_le, ◌==◌, ◌&&◌, if◌then◌else◌, Bool, Option, None, option_map, List, [], ◌∷◌, ◌++◌, length, drop, sum_by, find, slice_get}
 use Rattle.outbox.specs.declared.kept.Kept.{Kept}
 
 -- ---- limits
@@ -60,6 +60,16 @@ without_number number (kept ∷ others) = if kept.number == number then others e
 -- the call of a reply
 abbrev pub call_of : Option Kept → Option ℕ
 call_of kept = option_map (λ kept. kept.call) kept
+
+-- no two entries have one key
+abbrev pub EachOnce : {X : Type 0} → (X → ℕ) → List X → Type 0
+EachOnce key [] = Unit {0}
+EachOnce key (x ∷ xs) = (find (λ other. key other == key x) xs ≡ None) × EachOnce key xs
+
+-- no two replies are to one call, and none have one number
+pub record AreApart (replies : Replies) : Type 0 where
+  pub calls : EachOnce (λ kept. kept.call) replies
+  pub numbers : EachOnce (λ kept. kept.number) replies
 
 -- ---- what contracts see
 

@@ -50,7 +50,7 @@ impl Model for Outbox {
 }
 
 impl Outbox {
-    ghost use Rattle.outbox.specs.Replies.{kept_replies_max, kept_bytes_max, bytes_of, fits, with_kept, dropped_for, with_room_for, by_call, by_number, without_number, call_of};
+    ghost use Rattle.outbox.specs.Replies.{AreApart, kept_replies_max, kept_bytes_max, bytes_of, fits, with_kept, dropped_for, with_room_for, by_call, by_number, without_number, call_of};
 
     /// An outbox with no reply. It takes room for a few.
     ///
@@ -164,6 +164,13 @@ impl Outbox {
         let kept = take_out(&mut self.replies, &mut self.calls, self.in_order, place);
         self.bytes -= kept.body.len();
         Some(kept.call)
+    }
+
+    /// Whether a reply is found by halving. Then no two are to one call, and none have one number.
+    pub fn is_in_order(&self) -> bool
+        ensures { result ≡ true → AreApart self.now.replies }
+    {
+        self.in_order
     }
 
     /// The reply to this call, the first where there are several; `None` where there is none.

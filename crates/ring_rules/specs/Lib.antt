@@ -1,3 +1,4 @@
 pub mod Bytes
 pub mod Opening
+pub mod Sealing
 pub mod Binding

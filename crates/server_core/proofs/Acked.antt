@@ -7,7 +7,7 @@ use Rattle.std.proofs.lemmas.List.Elements.{All-contains, All-nil, Contains-appe
 use Rattle.auth_keys.specs.declared.ring.RingKey.{RingKey}
 use Rattle.draws.specs.Draws.{next_bytes}
 use Rattle.envelope.specs.Packet.{Lock}
-use Rattle.id_window.specs.Crossing.{is_odd}
+use Rattle.msg_ids.specs.Counters.{is_odd}
 use Rattle.service_tl.specs.declared.lists.Message.{Message}
 use Rattle.msg_ids.specs.Counters.{Counters}
 use Rattle.salt_line.specs.Line.{current_salt}

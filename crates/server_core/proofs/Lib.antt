@@ -41,7 +41,7 @@ pub mod TickLoops
 pub mod ReserveLemmas
 pub mod FreshLemmas
 pub mod OverdueLemmas
-pub mod Fresh
+pub mod Calling
 pub mod PacketRoom
 pub mod AllSettled
 pub mod Left

@@ -1,10 +1,10 @@
 -- The room that a packet takes is enough for what it brings.
 use Rattle.std.proofs.Common.{◌≡◌, ◌∙◌, ◌≤◌, ℕ, ◌+◌, ◌*◌, Bool, true, false, List, [], ◌∷◌, ap, sym, subst, refl, length, arith}
 use Rattle.std.specs.Prelude.{◌/◌, if◌then◌else◌, sum_by, IfOk, Result, Ok, Err}
-use Rattle.std.proofs.lemmas.Bool.{cond_both, false≢true}
-use Rattle.std.proofs.lemmas.List.Sums.{sum_by-cons, sum_by-le-sum_by}
+use Rattle.std.proofs.lemmas.Bool.{cond_both}
+use Rattle.std.proofs.lemmas.List.Sums.{sum_by-le-sum_by}
 use Rattle.outbox.specs.declared.kept.Kept.{Kept}
-use Rattle.outbox.specs.Replies.{Contents, Replies, bytes_of}
+use Rattle.outbox.specs.Replies.{Contents, Replies}
 use Rattle.octets.specs.declared.memory.Memory.{Memory}
 use Rattle.server_output.specs.Batch.{Batch, is_one, packets_most, with_heads}
 use Rattle.server_output.specs.Dues.{Dues, has_number}
@@ -12,17 +12,19 @@ use Rattle.server_output.specs.Items.{acks_bytes, ids_max, new_session_bytes}
 use Rattle.server_output.specs.Outs.{Going}
 use Rattle.server_rules.specs.Answer.{room_min}
 use Rattle.service_tl.specs.declared.lists.Message.{Message}
+use Rattle.server_session.specs.declared.calling.Called.{Called}
 use Rattle.server_session.specs.declared.session.SessionState.{SessionState}
-use Rattle.server_session.specs.Repeats.{kept_bytes, kept_count}
 use Rattle.server_session.specs.SessionState.{numbers_left, outbox_of}
-use Rattle.server_session.specs.Unsaid.{NoMoreUnsaid, unsaid_bytes, unsaid_count, unsaid_weight}
+use Rattle.server_session.specs.Unsaid.{CallsFor, IsCalled, NoMoreUnsaid, called_weight, unsaid_bytes, unsaid_count, unsaid_weight}
 use Rattle.server_dispatch.specs.declared.turn.Turn.{Turn}
 use Rattle.server_dispatch.specs.Entries.{Held}
-use Rattle.server_dispatch.specs.Spare.{HasSpare, Uses, where_again}
+use Rattle.server_dispatch.specs.Spare.{HasSpare, Uses}
 use Rattle.server_dispatch.specs.Speaks.{HasRoom, Spends}
 use Rattle.server_core.specs.declared.room.PacketRoom.{PacketRoom}
 use Rattle.server_core.specs.declared.speech.Speech.{Speech}
 use Rattle.server_core.specs.Speech.{IsRoomFor}
+use Rattle.server_core.specs.SettlingAll.{calls_by}
+use Rattle.server_core.proofs.Uses.{bytes-less, count-less}
 use Rattle.server_core.specs.Room.{CanSend, CanTake, IsPacketRoom, packet_bytes, packet_messages, settling_bytes, settling_messages, turn_in}
 
 -- what wasn't said of the kept replies is no more than these
@@ -31,27 +33,21 @@ unsaid-less weight messages replies =
     sum_by-le-sum_by (λ (kept : Kept). if has_number kept.number messages then 0 else weight kept) weight replies
     (λ kept. cond_both (has_number kept.number messages) 0 (weight kept) (λ n. n ≤ weight kept) (λ is. omega arith) (λ not_so. omega arith))
 
-one-each : (replies : Replies) → sum_by (λ (kept : Kept). 1) replies ≡ length replies
-one-each [] = refl
-one-each (kept ∷ replies) =
-    let rest = one-each replies in
-    let first = sum_by-cons (λ (one : Kept). 1) kept replies in
-    omega (arith, first, rest)
+-- and of those that are called for no more than there is room for
 
-unsaid-few : (standing : SessionState) (owing : Dues) → unsaid_count standing owing ≤ kept_count standing
-unsaid-few standing owing =
-    let less = unsaid-less (λ kept. 1) owing.messages standing.outbox.replies in
-    let all = one-each standing.outbox.replies in
-    omega (arith, less, all)
+unsaid-few : (called more : Kept → Bool) (standing : SessionState) (owing : Dues) (most : Called) → CallsFor called more → IsCalled more standing most
+    → unsaid_count called standing owing ≤ most.count
+unsaid-few called more standing owing most calls is =
+    let less = count-less called more standing owing calls in
+    let all = unsaid-less (called_weight more (λ kept. 1)) owing.messages standing.outbox.replies in
+    omega (arith, less, all, is.count)
 
-unsaid-short : (standing : SessionState) (owing : Dues) → unsaid_bytes standing owing ≤ kept_bytes standing
-unsaid-short standing owing = unsaid-less (λ kept. length kept.body) owing.messages standing.outbox.replies
-
--- no more may be said again, where no more is asked for
-again-within : (again other : Bool) (few many : ℕ) → (again ≡ true → other ≡ true) → few ≤ many → where_again again few ≤ where_again other many
-again-within true true few many asked less = less
-again-within true false few many asked less = absurd (false≢true (asked refl))
-again-within false other few many asked less = omega arith
+unsaid-short : (called more : Kept → Bool) (standing : SessionState) (owing : Dues) (most : Called) → CallsFor called more → IsCalled more standing most
+    → unsaid_bytes called standing owing ≤ most.bytes
+unsaid-short called more standing owing most calls is =
+    let less = bytes-less called more standing owing calls in
+    let all = unsaid-less (called_weight more (λ kept. length kept.body)) owing.messages standing.outbox.replies in
+    omega (arith, less, all, is.bytes)
 
 -- ---- how much it is
 
@@ -83,15 +79,15 @@ numbers-fit count limit messages bytes result few few_jobs few_messages short is
 
 room-later : (standing after : SessionState) (room : PacketRoom) → outbox_of after ≡ outbox_of standing → IsPacketRoom standing room → IsPacketRoom after room
 room-later standing after room same is =
-    let count = length room.dues.items in
-    let R : Contents → Type 0 = λ outbox.
-    IsRoomFor (packet_messages count room.limit + where_again room.again (length outbox.replies))
-    (packet_bytes room.dues.items room.limit + where_again room.again (bytes_of outbox.replies)) room.speech in
+    let called = calls_by room.dues.items in
+    let C : Contents → Type 0 = λ outbox. sum_by (called_weight called (λ kept. 1)) outbox.replies ≤ room.called.count in
+    let B : Contents → Type 0 = λ outbox. sum_by (called_weight called (λ kept. length kept.body)) outbox.replies ≤ room.called.bytes in
     record {
       few = is.few;
       no_acks = is.no_acks;
       acks = is.acks;
-      speech = subst R (sym same) is.speech;
+      called = record { count = subst C (sym same) is.called.count; bytes = subst B (sym same) is.called.bytes; few = is.called.few; short = is.called.short };
+      speech = is.speech;
       entries = is.entries;
       numbers = is.numbers;
     }
@@ -114,11 +110,11 @@ pub acks-short : (acks : ℕ) (standing : SessionState) (jobs bindings : ℕ) (r
 acks-short acks standing jobs bindings room is few = omega (arith, few, is.taken.few)
 
 places-are : (standing : SessionState) (room : PacketRoom) → IsPacketRoom standing room
-    → room.speech.owing.places ≡ packet_messages (length room.dues.items) room.limit + where_again room.again (kept_count standing)
+    → room.speech.owing.places ≡ packet_messages (length room.dues.items) room.limit + room.called.count
 places-are standing room is = ap (λ (dues : Dues). dues.places) is.speech.owing
 
 bytes-are : (standing : SessionState) (room : PacketRoom) → IsPacketRoom standing room
-    → room.speech.owing.room ≡ packet_bytes room.dues.items room.limit + where_again room.again (kept_bytes standing)
+    → room.speech.owing.room ≡ packet_bytes room.dues.items room.limit + room.called.bytes
 bytes-are standing room is = ap (λ (dues : Dues). dues.room) is.speech.owing
 
 entries-are : (standing : SessionState) (room : PacketRoom) → IsPacketRoom standing room → room.entries.room ≡ length room.dues.items + room.limit
@@ -138,36 +134,34 @@ opening-room acks standing jobs bindings room is few numbers =
     }
 
 -- for the judgements after it
-pub settling-room : (again : Bool) (now acks : ℕ) (standing after : SessionState) (jobs bindings : ℕ) (room : PacketRoom) (left : Turn) → CanTake standing jobs bindings room
-    → acks ≤ length room.dues.items → room_min ≤ numbers_left standing → (again ≡ true → room.again ≡ true)
+pub settling-room : (called : Kept → Bool) (now acks : ℕ) (standing after : SessionState) (jobs bindings : ℕ) (room : PacketRoom) (left : Turn) → CanTake standing jobs bindings room
+    → acks ≤ length room.dues.items → room_min ≤ numbers_left standing → CallsFor called (calls_by room.dues.items)
     → Spends now 2 (new_session_bytes + acks_bytes acks) 0 standing (turn_in room) after left → NoMoreUnsaid standing room.speech.owing after left.owing
     → outbox_of after ≡ outbox_of standing
-    → HasSpare again (settling_messages (length room.dues.items) room.limit) (settling_bytes room.dues.items room.limit)
+    → HasSpare called (settling_messages (length room.dues.items) room.limit) (settling_bytes room.dues.items room.limit)
     (length room.dues.items + room.limit) (settling_messages (length room.dues.items) room.limit) after left
-settling-room again now acks standing after jobs bindings room left is few numbers asked spends unsaid same =
+settling-room called now acks standing after jobs bindings room left is few numbers asked spends unsaid same =
     let places = places-are standing room is.taken in
     let bytes = bytes-are standing room is.taken in
     let entries = entries-are standing room is.taken in
-    let no_more = unsaid-few standing room.speech.owing in
-    let no_longer = unsaid-short standing room.speech.owing in
-    let said : where_again again (unsaid_count after left.owing) ≤ where_again room.again (kept_count standing) =
-    again-within again room.again _ _ asked (omega (arith, unsaid.count, no_more)) in
-    let said_bytes : where_again again (unsaid_bytes after left.owing) ≤ where_again room.again (kept_bytes standing) =
-    again-within again room.again _ _ asked (omega (arith, unsaid.bytes, no_longer)) in
+    let no_more = unsaid-few called (calls_by room.dues.items) standing room.speech.owing room.called asked is.taken.called in
+    let no_longer = unsaid-short called (calls_by room.dues.items) standing room.speech.owing room.called asked is.taken.called in
+    let said = unsaid.count called in
+    let said_bytes = unsaid.bytes called in
     let replies = ap (λ (outbox : Contents). outbox.room) same in
     record {
-      places = omega (arith, places, spends.places, said);
-      bytes = omega (arith, bytes, spends.bytes, said_bytes, few);
+      places = omega (arith, places, spends.places, said, no_more);
+      bytes = omega (arith, bytes, spends.bytes, said_bytes, no_longer, few);
       numbers = omega (arith, numbers, spends.numbers, is.taken.numbers);
       entries = omega (arith, entries, spends.entries);
       replies = omega (arith, replies, is.replies);
     }
 
 -- for sending all of it
-pub sending-room : (again : Bool) (now acks size answers kept : ℕ) (standing after last : SessionState) (jobs bindings : ℕ) (room : PacketRoom) (left end : Turn) → CanTake standing jobs bindings room
+pub sending-room : (called : Kept → Bool) (now acks size answers kept : ℕ) (standing after last : SessionState) (jobs bindings : ℕ) (room : PacketRoom) (left end : Turn) → CanTake standing jobs bindings room
     → room_min ≤ numbers_left standing → Spends now 2 (new_session_bytes + acks_bytes acks) 0 standing (turn_in room) after left
-    → Uses again now (settling_messages (length room.dues.items) room.limit) size answers kept after left last end → CanSend now standing last room end
-sending-room again now acks size answers kept standing after last jobs bindings room left end is numbers spends uses =
+    → Uses called now (settling_messages (length room.dues.items) room.limit) size answers kept after left last end → CanSend now standing last room end
+sending-room called now acks size answers kept standing after last jobs bindings room left end is numbers spends uses =
     let speech = is.taken.speech in
     let taken = ap (λ (dues : Dues). dues.places_taken) speech.owing in
     let bytes_taken = ap (λ (dues : Dues). dues.bytes_taken) speech.owing in

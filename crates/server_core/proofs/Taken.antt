@@ -24,7 +24,7 @@ use Rattle.server_rules.specs.Waiting.{tells_of}
 use Rattle.server_rules.specs.Rows.{acks_of, acknowledges}
 use Rattle.server_rules.specs.Answer.{message_in, name_in, opens}
 use Rattle.law_server.specs.Order.{IsMidway, IsOrderly, IsTold, jobs_of, opens_of}
-use Rattle.server_dispatch.specs.declared.action.Action.{Action}
+use Rattle.server_dispatch.specs.declared.dues.Due.{Due}
 use Rattle.server_dispatch.specs.declared.turn.Turn.{Turn}
 use Rattle.server_dispatch.specs.Speaks.{Speaks}
 use Rattle.server_session.specs.declared.session.SessionState.{SessionState}
@@ -42,7 +42,7 @@ use Rattle.server_core.proofs.Ordered.{KeepsOrder, opened-order}
 use Rattle.server_core.proofs.Own.{GivesUpFor}
 
 -- each judgement has something that its message needs
-pub due-few : (judged : List Judgement) (bodies : List (List ℕ)) (dues : List Action) → AreDue judged bodies dues → length judged ≤ length dues
+pub due-few : (judged : List Judgement) (bodies : List (List ℕ)) (dues : List Due) → AreDue judged bodies dues → length judged ≤ length dues
 due-few [] bodies dues are = omega arith
 due-few (judgement ∷ judged) [] dues are = absurd are
 due-few (judgement ∷ judged) (body ∷ bodies) [] are = absurd are

@@ -6,7 +6,7 @@ use Rattle.service_tl.specs.declared.item.Item.{Item}
 use Rattle.service_tl.specs.declared.item.Item.TheVariants.{MsgsAck, InvokeAfterMsg, InvokeAfterMsgs, AuthBindTempAuthKey, Packed, Call, Broken}
 use Rattle.service_tl.specs.declared.lists.Message.{Message}
 use Rattle.service_tl.specs.Items.{spelling_of}
-use Rattle.id_window.specs.Crossing.{is_odd}
+use Rattle.msg_ids.specs.Counters.{is_odd}
 use Rattle.inbox.specs.Kinds.{item_told}
 use Rattle.inbox.specs.Judging.{judgements, session_after}
 use Rattle.inbox.specs.Refusals.{InEnvelope}

@@ -28,7 +28,7 @@ use Rattle.server_core.specs.Failures.{blocked_of}
 use Rattle.server_core.specs.Hearing.{IsHeard}
 use Rattle.server_core.specs.Server.{CanSpeak, Kept}
 use Rattle.server_core.specs.Sessions.{AreKept}
-use Rattle.server_core.specs.SettlingAll.{AreDue, some_repeats}
+use Rattle.server_core.specs.SettlingAll.{AreDue, are_numbered}
 
 -- ---- what a server hears
 
@@ -95,11 +95,10 @@ pub record HasJudged {S : Type 0} (setting : Setting S) (envelope : Envelope) (k
   pub alone : IsAlone (name_in envelope) among
   pub order : IsOrderlySpeaker (name_in envelope) among.speaker
 
--- The room that was taken is that for what these judgements need: there is room for kept replies that are said again where
--- some may be, and for so many jobs that fail.
+-- The room that was taken is that for what these judgements need, each that of its message, and for so many jobs that fail.
 pub record Fits {S : Type 0} (setting : Setting S) (envelope : Envelope) (judged : List Judgement) (room : PacketRoom) (among : Among S) : Type 0 where
   pub due : AreDue judged (bodies_of setting envelope among.speaker.session) room.dues.items
-  pub again : some_repeats judged room.dues.items ≡ true → room.again ≡ true
+  pub numbered : are_numbered judged room.dues.items ≡ true
   pub few : blocked_of (name_in envelope) among.speaker.jobs + length judged ≤ room.limit
 
 -- ---- what the event leaves

@@ -1,26 +1,28 @@
 -- The judgements of a packet, settled in order.
-use Rattle.std.specs.Prelude.{◌≡◌, ◌≤◌, ◌+◌, ℕ, Bool, List, [], ◌∷◌, All, ⊤, fold, length, max}
-use Rattle.std.specs.List.{list_any, zip}
+use Rattle.std.specs.Prelude.{◌≡◌, ◌≤◌, ◌==◌, ◌+◌, ℕ, Bool, List, [], ◌∷◌, All, ⊤, fold, length, max}
+use Rattle.std.specs.List.{list_all, list_any, zip}
 use Rattle.id_window.specs.History.{History}
+use Rattle.outbox.specs.declared.kept.Kept.{Kept}
 use Rattle.inbox.specs.declared.judged.Judgement.{Judgement}
 use Rattle.server_output.specs.Items.{bad_salt_bytes}
 use Rattle.server_rules.specs.Server.{Name}
 use Rattle.server_rules.specs.Event.{Setting}
 use Rattle.law_server.specs.Order.{IsTold, opens_of}
 use Rattle.server_dispatch.specs.declared.action.Action.{Action}
-use Rattle.server_dispatch.specs.Action.{due_by, due_bytes, due_of, due_repeats}
+use Rattle.server_dispatch.specs.declared.dues.Due.{Due}
+use Rattle.server_dispatch.specs.Action.{due_by, due_bytes, due_calls, due_of, may_call}
 use Rattle.server_core.specs.Among.{Among, IsAlone, IsInOrder, settles_among}
 use Rattle.server_core.specs.Failures.{blocked_of}
 
 -- ---- what judged messages need
 
 -- what a judged message needs, where this is what it needs accepted
-abbrev pub due_judged : Judgement → Action → Action
-due_judged judgement due = due_by judgement.seq judgement.verdict due
+abbrev pub due_judged : Judgement → Due → Action
+due_judged judgement due = due_by judgement.seq judgement.verdict due.action
 
 -- Judged so, the messages of these bodies need this, where these are what they need accepted. There may be more that weren't
 -- judged.
-abbrev pub AreDue : List Judgement → List (List ℕ) → List Action → Type 0
+abbrev pub AreDue : List Judgement → List (List ℕ) → List Due → Type 0
 AreDue [] bodies dues = ⊤
 AreDue (judgement ∷ judged) [] dues = ⊥
 AreDue (judgement ∷ judged) (body ∷ bodies) [] = ⊥
@@ -28,12 +30,20 @@ AreDue (judgement ∷ judged) (body ∷ bodies) (due ∷ dues) =
     (due_judged judgement due ≡ due_of judgement.number judgement.seq judgement.verdict body) × AreDue judged bodies dues
 
 -- the bytes of bodies of the longer one of what a message needs, and of what it needs where it isn't accepted
-abbrev pub due_most : Action → ℕ
-due_most due = max bad_salt_bytes (due_bytes due)
+abbrev pub due_most : Due → ℕ
+due_most due = max bad_salt_bytes (due_bytes due.action)
 
--- one of the messages may say kept replies again
-abbrev pub some_repeats : List Judgement → List Action → Bool
-some_repeats judged dues = list_any (λ one. due_repeats (due_judged one.0 one.1)) (zip judged dues)
+-- the judgements are on the messages that need this, one after the other
+abbrev pub are_numbered : List Judgement → List Due → Bool
+are_numbered judged dues = list_all (λ one. one.0.number == one.1.number) (zip judged dues)
+
+-- the kept replies that the judgements call for,
+abbrev pub calls_of : List Judgement → List Due → Kept → Bool
+calls_of judged dues kept = list_any (λ one. due_calls one.0.number (due_judged one.0 one.1) kept) (zip judged dues)
+
+-- and those that the messages may call for before they are judged
+abbrev pub calls_by : List Due → Kept → Bool
+calls_by dues kept = list_any (λ due. may_call due kept) dues
 
 -- ---- the session that speaks
 

@@ -5,7 +5,7 @@ use Rattle.envelope.specs.Packet.{Lock}
 use Rattle.id_window.specs.History.{History}
 use Rattle.waits.specs.declared.job.Job.{Job}
 use Rattle.waits.specs.Jobs.{Queue}
-use Rattle.server_answers.specs.Contents.{short_bytes_max}
+use Rattle.server_dispatch.specs.Contents.{short_bytes_max}
 use Rattle.server_output.specs.Items.{IsContent, result_bytes}
 use Rattle.server_output.specs.Outs.{AreSent}
 use Rattle.server_rules.specs.Server.{Name, name_of}

@@ -2,10 +2,11 @@
 
 ghost use Rattle.std.specs.Prelude.{◌≡◌, ◌≤◌, ◌+◌, ◌*◌, ℕ, Bool, List, length};
 ghost use Rattle.id_window.specs.History.{History};
+ghost use Rattle.outbox.specs.declared.kept.Kept.{Kept};
 ghost use Rattle.waits.specs.Jobs.{Queue};
 ghost use Rattle.server_rules.specs.Server.{Binding, Name};
 ghost use Rattle.server_rules.specs.Event.{Speaker};
-ghost use Rattle.server_answers.specs.Contents.{short_bytes_max};
+ghost use Rattle.server_dispatch.specs.Contents.{short_bytes_max};
 ghost use Rattle.server_output.specs.Items.{result_bytes};
 ghost use Rattle.server_session.specs.SessionState.{replies_left};
 ghost use Rattle.server_session.specs.Says.{Keys, setting_of};
@@ -17,8 +18,7 @@ ghost use Rattle.server_core.specs.Failures.{HasFailures, blocked_of};
 use draws::Draw;
 use law_server::laws::{rows_keep_order, taken_jobs_are_open};
 use msg_ids::Moment;
-use server_answers::Short;
-use server_dispatch::Turn;
+use server_dispatch::{Short, Turn};
 use server_session::SessionState;
 use waits::Jobs;
 
@@ -42,7 +42,7 @@ pub(crate) fn answers_failed<D: Draw>(
     ensures fewer { (keys : Keys) (bindings : List Binding) (draw : D) (name : Name) (others : Name → Queue) (past : History) (speaker : Speaker D)
         → Speaks now standing.old turn.old jobs.old.jobs bindings draw speaker → HasFailures name others past speaker
         → blocked_of name jobs.new.jobs + result ≤ blocked_of name speaker.jobs }
-    ensures uses { (again : Bool) → Uses again now result (result * result_bytes short_bytes_max) result result standing.old turn.old standing.new turn.new }
+    ensures uses { (called : Kept → Bool) → Uses called now result (result * result_bytes short_bytes_max) result result standing.old turn.old standing.new turn.new }
     ensures replies_last { replies_left standing.old ≤ replies_left standing.new + limit }
     ensures same_job_room { jobs.new.room ≡ jobs.old.room }
 {

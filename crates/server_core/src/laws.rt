@@ -1,7 +1,7 @@
 //! Laws of an event in which one session speaks, each the contract of a function that does nothing.
 
 ghost use Rattle.std.specs.Prelude.{◌≡◌, ◌∷◌, ℕ, List, Some, All, Contains, false, length, true};
-ghost use Rattle.id_window.specs.Crossing.{is_odd};
+ghost use Rattle.msg_ids.specs.Counters.{is_odd};
 ghost use Rattle.id_window.specs.History.{History};
 ghost use Rattle.inbox.specs.declared.judged.Judgement.{Judgement};
 ghost use Rattle.regs_service.specs.Served.{Step};

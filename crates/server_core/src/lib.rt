@@ -3,7 +3,6 @@
 //! the definitions (`Stands`), and each event makes it stand for what the definitions say of that event.
 #![tactic(auto)]
 
-mod again;
 mod attaching;
 mod desk;
 mod desks;

@@ -1,7 +1,6 @@
 //! A session that has judged a packet answers it, in room that was taken before.
 
 ghost use Rattle.std.specs.Prelude.{◌≡◌, ◌≤◌, true, length};
-ghost use Rattle.server_dispatch.specs.Action.{due_repeats};
 ghost use Rattle.server_dispatch.specs.Rings.{AreOf};
 ghost use Rattle.server_rules.specs.Event.{Envelope};
 ghost use Rattle.server_session.specs.Names.{name_kept};
@@ -14,7 +13,7 @@ ghost use Rattle.server_core.specs.Others.{AreLeft};
 ghost use Rattle.server_core.specs.Packets.{AreBeside, EndsAmong, Fits, HasJudged, kept_so};
 ghost use Rattle.server_core.specs.Room.{CanTake};
 ghost use Rattle.server_core.specs.Server.{CanSpeak, IsSound};
-ghost use Rattle.server_core.specs.SettlingAll.{due_judged, some_repeats};
+ghost use Rattle.server_core.specs.SettlingAll.{are_numbered};
 
 use crate::effects::Effects;
 use crate::leaving::goes_back;
@@ -25,13 +24,13 @@ use crate::settling_all::settles_all;
 use crate::speech::Speech;
 use draws::Draw;
 use envelope::Seal;
-use inbox::{Judgement, Verdict};
+use inbox::Judgement;
 use law_server::laws::{
     packets_are_judged, rows_keep_order, sessions_speak_for_themselves, speech_keeps_order,
     taken_jobs_are_open,
 };
 use msg_ids::Moment;
-use server_dispatch::{Action, Bindings, Turn, acks_in};
+use server_dispatch::{Bindings, Due, Turn, acks_in};
 use server_session::SessionState;
 use waits::Jobs;
 
@@ -106,7 +105,7 @@ fn takes<S: Seal, D: Draw>(
         dues,
         acks,
         limit,
-        again,
+        called: _,
         speech,
         entries,
     } = room;
@@ -117,7 +116,7 @@ fn takes<S: Seal, D: Draw>(
     } = speech;
     let mut turn = Turn { owing, entries };
     let mut acks = acks;
-    let judged = in_room(judged, dues.as_slice(), again);
+    let judged = in_room(judged, dues.as_slice());
     acks_in(judged, &mut acks);
     turn.opens(now, standing, draw, acks.as_slice());
     let ring = seal.ring();
@@ -134,35 +133,25 @@ fn takes<S: Seal, D: Draw>(
     Effects { out, entries }
 }
 
-// The judgements, where what they need fits the room that was taken: where each has something that it needs, and none says
-// kept replies again without room for them. It is so of what a session of a server judges.
-fn in_room<'a>(judged: &'a [Judgement], dues: &[Action], again: bool) -> &'a [Judgement]
+// The judgements, where each is on the message whose needs stand at its place: the room that was taken is that for these. It is
+// so of what a session of a server judges.
+fn in_room<'a>(judged: &'a [Judgement], dues: &[Due]) -> &'a [Judgement]
     ensures few { length result.now ≤ length dues.now }
-    ensures again { some_repeats result.now dues.now ≡ true → again ≡ true }
-    ensures all { length judged.now ≤ length dues.now → (some_repeats judged.now dues.now ≡ true → again ≡ true) → result.now ≡ judged.now }
+    ensures numbered { are_numbered result.now dues.now ≡ true }
+    ensures all { length judged.now ≤ length dues.now → are_numbered judged.now dues.now ≡ true → result.now ≡ judged.now }
 {
-    if judged.len() > dues.len() || (!again && some_repeats(judged, dues)) {
+    if judged.len() > dues.len() || !are_numbered(judged, dues) {
         return &[];
     }
     judged
 }
 
-// Whether one of these judgements may say kept replies again, where this is what each message needs accepted.
-fn some_repeats(judged: &[Judgement], dues: &[Action]) -> bool
-    ensures { result ≡ some_repeats judged.now dues.now }
+// Whether each judgement is on the message whose needs stand at its place.
+fn are_numbered(judged: &[Judgement], dues: &[Due]) -> bool
+    ensures { result ≡ are_numbered judged.now dues.now }
 {
     judged
         .iter()
         .zip(dues)
-        .any(|(judgement, due)| repeats(judgement, due))
-}
-
-fn repeats(judgement: &Judgement, due: &Action) -> bool
-    ensures { result ≡ due_repeats (due_judged judgement.now due.now) }
-{
-    match judgement.verdict {
-        Verdict::Accepted(_) => due.repeats(),
-        Verdict::Again(_) => true,
-        Verdict::Noticed(_) => false,
-    }
+        .all(|(judgement, due)| judgement.number == due.number)
 }

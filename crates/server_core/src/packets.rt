@@ -29,7 +29,7 @@ use crate::laws::{
 };
 use crate::packet_answers::answers_packet;
 use crate::room::judges_in_room;
-use crate::server::{Server, later};
+use crate::server::Server;
 use draws::Draw;
 use envelope::{Dir, Envelope, Opened, Refusal, Seal};
 use inbox::Outer;
@@ -82,7 +82,7 @@ impl<S: Seal> Server<S> {
         acceptable_messages_are_accepted::<D>();
         lawful_messages_are_taken::<D>();
         acknowledgements_go_out::<D>();
-        let moment = later(self.moment, now);
+        let moment = self.moment.later(now);
         match self.seal.unseal(alloc, moment, Dir::Up, packet) {
             Opened::Envelope(envelope) => self.hears(alloc, moment, envelope, draw),
             Opened::Refused(refusal) => self.refuses(alloc, moment, refusal),

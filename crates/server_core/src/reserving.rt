@@ -12,6 +12,7 @@ ghost use Rattle.server_core.specs.Answering.{answers_left};
 ghost use Rattle.server_core.specs.Reserving.{AreFresh, AreReserved, IsFresh};
 ghost use Rattle.server_core.specs.Sessions.{AreApart};
 
+use crate::room::SHORT_RESULT_BYTES;
 use crate::sessions::Sessions;
 use crate::tick_turns::{TickTurn, TickTurns};
 use msg_ids::Moment;
@@ -20,9 +21,6 @@ use server_dispatch::{Entries, Turn};
 use server_output::{OutgoingMessages, Packets};
 use std::alloc::Global;
 use waits::Jobs;
-
-/// What each short answer takes at most, in bytes.
-const SHORT_RESULT_BYTES: usize = 48;
 
 impl TickTurn {
     // Nothing said yet, and room for so many answers. Takes no memory where there are none.

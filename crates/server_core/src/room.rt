@@ -1,33 +1,32 @@
 //! The room that a packet's event takes before anything is judged.
 
-ghost use Rattle.std.specs.Prelude.{◌≡◌, ◌≤◌, ◌*◌, ◌+◌, ◌∷◌, ℕ, true, IfOk, OnErr, OnOk, length, map, max};
+ghost use Rattle.std.specs.Prelude.{◌≡◌, ◌≤◌, ◌*◌, ◌+◌, ◌∷◌, IfOk, OnErr, OnOk, length, map, max};
 ghost use Rattle.waits.specs.Jobs.{Queue, blocked_count_of};
 ghost use Rattle.inbox.specs.Inbox.{message_in};
 ghost use Rattle.inbox.specs.Judging.{judgements, session_after};
 ghost use Rattle.inbox.specs.Kinds.{inner_messages};
-ghost use Rattle.inbox.specs.Refusals.{InEnvelope, Way};
+ghost use Rattle.inbox.specs.Refusals.{InEnvelope};
 ghost use Rattle.law_server.specs.Order.{IsOrderly};
 ghost use Rattle.server_rules.specs.Server.{Session, remembered};
-ghost use Rattle.server_dispatch.specs.Action.{needed_of};
+ghost use Rattle.server_dispatch.specs.Action.{due_needed};
 ghost use Rattle.outbox.specs.Replies.{kept_bytes_max, kept_replies_max};
 ghost use Rattle.server_output.specs.Batch.{packets_most};
 ghost use Rattle.server_rules.specs.Answer.{room_min};
-ghost use Rattle.server_dispatch.specs.Spare.{where_again};
 ghost use Rattle.server_session.specs.Names.{name_kept};
-ghost use Rattle.server_session.specs.Repeats.{kept_bytes, kept_count};
+ghost use Rattle.server_session.specs.Unsaid.{IsCalled};
 ghost use Rattle.server_session.specs.Rooms.{with_replies_left};
 ghost use Rattle.server_session.specs.SessionState.{IsAt, Stands, key_of, number_of, numbers_left, replies_left};
 ghost use Rattle.server_core.specs.Room.{CanTake, dues_most, packet_bytes, packet_messages, settling_messages};
-ghost use Rattle.server_core.specs.SettlingAll.{some_repeats};
+ghost use Rattle.server_core.specs.SettlingAll.{calls_by};
 ghost use Rattle.server_core.specs.Speech.{IsRoomFor};
 
-use crate::again::may_repeat;
 use crate::speech::Speech;
 use inbox::{Judged, Outer};
 use msg_ids::Moment;
 use octets::Memory;
-use server_dispatch::{Action, Bindings, Entries, dues_of};
-use server_session::SessionState;
+use server_dispatch::{Bindings, Due, Entries, dues_of};
+use server_session::laws::called_replies_are_few;
+use server_session::{Called, SessionState};
 use std::alloc::Global;
 use waits::Jobs;
 
@@ -38,7 +37,7 @@ const OPENING_BYTES: usize = 40;
 const NUMBER_BYTES: usize = 8;
 
 /// What each short answer takes at most, in bytes.
-const SHORT_RESULT_BYTES: usize = 48;
+pub(crate) const SHORT_RESULT_BYTES: usize = 48;
 
 /// The bytes of the longest notice.
 const NOTICE_BYTES: usize = 28;
@@ -47,13 +46,13 @@ const NOTICE_BYTES: usize = 28;
 #[derive(Drop)]
 pub(crate) struct PacketRoom {
     /// What each message needs where it is accepted.
-    pub(crate) dues: Vec<Action>,
+    pub(crate) dues: Vec<Due>,
     /// None yet, and room for the numbers that are acknowledged.
     pub(crate) acks: Vec<u64>,
     /// How many jobs of the session may fail by the packet at most: those that aren't ready, and its own.
     pub(crate) limit: usize,
-    /// Whether there is room for all kept replies.
-    pub(crate) again: bool,
+    /// For how many kept replies there is room, which the messages may call for.
+    pub(crate) called: Called,
     pub(crate) speech: Speech,
     pub(crate) entries: Entries,
 }
@@ -73,22 +72,20 @@ impl PacketRoom {
         jobs: &Jobs,
     ) -> Result<PacketRoom, Memory>
         ensures room { IfOk result (IsPacketRoom standing.now) }
-        ensures dues { IfOk result (λ room. room.dues.items ≡ map needed_of (message_in outer.now ∷ inner_messages (message_in outer.now))) }
+        ensures dues { IfOk result (λ room. room.dues.items ≡ map due_needed (message_in outer.now ∷ inner_messages (message_in outer.now))) }
         ensures limit { IfOk result (λ room. room.limit ≡ blocked_count_of (key_of standing.now) (number_of standing.now) jobs.now.jobs + length room.dues.items) }
-        ensures again { (now : ℕ) (session : Session) (way : Way) → Stands now standing.now session
-            → IfOk result (λ room. some_repeats (judgements way (remembered session) (message_in outer.now)) room.dues.items ≡ true → room.again ≡ true) }
     {
         let dues = dues_of(alloc, outer)?;
-        let again = may_repeat(standing, outer, dues.as_slice());
+        let called = called_by(standing, dues.as_slice());
         let count = dues.len();
         let limit = jobs.blocked(standing.key(), standing.number()) + count;
         Ok(PacketRoom {
             acks: Vec::with_capacity(alloc, count)?,
-            speech: speech_for(alloc, standing, again, dues.as_slice(), limit)?,
+            speech: speech_for(alloc, called, dues.as_slice(), limit)?,
             entries: Entries::new(alloc, count + limit)?,
             dues,
             limit,
-            again,
+            called,
         })
     }
 }
@@ -107,10 +104,8 @@ pub(crate) fn takes_room(
     bindings: &mut Bindings,
 ) -> Result<PacketRoom, Memory>
     ensures room { IfOk result (CanTake standing.new jobs.new.room bindings.new.room) }
-    ensures dues { IfOk result (λ room. room.dues.items ≡ map needed_of (message_in outer.now ∷ inner_messages (message_in outer.now))) }
+    ensures dues { IfOk result (λ room. room.dues.items ≡ map due_needed (message_in outer.now ∷ inner_messages (message_in outer.now))) }
     ensures limit { IfOk result (λ room. room.limit ≡ blocked_count_of (key_of standing.old) (number_of standing.old) jobs.old.jobs + length room.dues.items) }
-    ensures again { (now : ℕ) (session : Session) (way : Way) → Stands now standing.old session
-        → IfOk result (λ room. some_repeats (judgements way (remembered session) (message_in outer.now)) room.dues.items ≡ true → room.again ≡ true) }
     ensures kept { IfOk result (λ room. standing.new ≡ with_replies_left (max (replies_left standing.old) (settling_messages (length room.dues.items) room.limit)) standing.old) }
     ensures same_jobs { jobs.new.jobs ≡ jobs.old.jobs }
     ensures same_bindings { bindings.new.bindings ≡ bindings.old.bindings }
@@ -140,11 +135,10 @@ pub(crate) fn judges_in_room(
 ) -> Result<(PacketRoom, Judged), Memory>
     requires at { IsAt now standing.old }
     ensures room { IfOk result (λ both. CanTake standing.new jobs.new.room bindings.new.room both.0) }
-    ensures dues { IfOk result (λ both. both.0.dues.items ≡ map needed_of (message_in outer.now ∷ inner_messages (message_in outer.now))) }
+    ensures dues { IfOk result (λ both. both.0.dues.items ≡ map due_needed (message_in outer.now ∷ inner_messages (message_in outer.now))) }
     ensures limit { IfOk result (λ both. both.0.limit ≡ blocked_count_of (key_of standing.old) (number_of standing.old) jobs.old.jobs + length both.0.dues.items) }
     ensures judged { (session : Session) → Stands now standing.old session
         → IfOk result (λ both. both.1 ≡ judgements (InEnvelope now session.salts outer.now.salt) (remembered session) (message_in outer.now)) }
-    ensures again { (session : Session) → Stands now standing.old session → IfOk result (λ both. some_repeats both.1 both.0.dues.items ≡ true → both.0.again ≡ true) }
     ensures stands { (session : Session) (queue : Queue) → Stands now standing.old session
         → IsOrderly session.history session.replies session.counters.last queue
         → OnOk result (Stands now standing.new (record session { history = (session_after (InEnvelope now session.salts outer.now.salt) (remembered session) (message_in outer.now)).history })) }
@@ -166,54 +160,46 @@ pub(crate) fn judges_in_room(
     }
 }
 
-// The room for all that a session says by a packet whose messages need this, where so many jobs may fail by it.
-fn speech_for(
-    alloc: Global,
-    standing: &SessionState,
-    again: bool,
-    dues: &[Action],
-    limit: usize,
-) -> Result<Speech, Memory>
+// The room for all that a session says by a packet whose messages need this, where so many jobs may fail by it, and so many kept
+// replies may be called for.
+fn speech_for(alloc: Global, called: Called, dues: &[Due], limit: usize) -> Result<Speech, Memory>
     requires few { length dues.now ≤ 1021 }
     requires few_jobs { limit ≤ 5117 }
-    ensures room { IfOk result (IsRoomFor
-        (packet_messages (length dues.now) limit + where_again again (kept_count standing.now))
-        (packet_bytes dues.now limit + where_again again (kept_bytes standing.now))) }
+    requires few_replies { called.count ≤ kept_replies_max }
+    requires short { called.bytes ≤ kept_bytes_max }
+    ensures room { IfOk result (IsRoomFor (packet_messages (length dues.now) limit + called.count) (packet_bytes dues.now limit + called.bytes)) }
     ensures numbers { IfOk result (λ speech. packet_messages (length dues.now) limit + packets_most speech.packets.messages speech.packets.bytes ≤ room_min) }
 {
-    let (replies, bytes) = room_again(standing, again);
     let opening = OPENING_BYTES + NUMBER_BYTES * dues.len();
     let settling = most_bytes(dues) + limit * SHORT_RESULT_BYTES;
     Speech::new(
         alloc,
-        2 + 2 * dues.len() + limit + replies,
-        opening + settling + bytes,
+        2 + 2 * dues.len() + limit + called.count,
+        opening + settling + called.bytes,
     )
 }
 
-// How many kept replies may be said again, and their bytes.
-fn room_again(standing: &SessionState, again: bool) -> (usize, usize)
-    ensures count { result.0 ≡ where_again again (kept_count standing.now) }
-    ensures bytes { result.1 ≡ where_again again (kept_bytes standing.now) }
-    ensures few { result.0 ≤ kept_replies_max }
-    ensures short { result.1 ≤ kept_bytes_max }
+// The kept replies that these may call for. It costs no more than to look for each.
+fn called_by(standing: &SessionState, dues: &[Due]) -> Called
+    ensures { IsCalled (calls_by dues.now) standing.now result }
 {
-    if again {
-        (standing.kept_count(), standing.kept_bytes())
-    } else {
-        (0, 0)
+    called_replies_are_few();
+    let mut called = standing.calls_for_none();
+    for due in dues {
+        called = due.calls_for(standing, called);
     }
+    called
 }
 
 // The bytes of bodies that these take at most.
-fn most_bytes(dues: &[Action]) -> usize
+fn most_bytes(dues: &[Due]) -> usize
     requires few { length dues.now ≤ 1021 }
     ensures sum { result ≡ dues_most dues.now }
     ensures few { result ≤ 8208 * length dues.now }
 {
     let mut bytes = 0;
     for due in dues {
-        bytes += NOTICE_BYTES.max(due.bytes());
+        bytes += NOTICE_BYTES.max(due.action.bytes());
     }
     bytes
 }

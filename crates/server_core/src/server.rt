@@ -147,7 +147,7 @@ impl<S: Seal> Server<S> {
         ensures same_seal { self.new.seal ≡ self.old.seal }
     {
         sessions_stand_later();
-        let moment = later(self.moment, now);
+        let moment = self.moment.later(now);
         match self.sessions.place(key, session) {
             None => self.passes(alloc, moment),
             Some(place) => self.attach_at(alloc, key, session, place, moment, draw),
@@ -201,17 +201,6 @@ impl<S: Seal> Server<S> {
         self.moment = moment;
         lose_spent(&mut self.sessions, &mut self.jobs, key, session, place);
         Ok(Effects { out, entries })
-    }
-}
-
-/// The later of two moments.
-pub(crate) fn later(one: Moment, other: Moment) -> Moment
-    ensures { result ≡ max one other }
-{
-    if one.seconds() < other.seconds() {
-        other
-    } else {
-        one
     }
 }
 

@@ -1,14 +1,16 @@
 //! A judgement is settled: its row, then what the jobs owe that waited for its number.
 
-ghost use Rattle.std.specs.Prelude.{◌≡◌, ◌≤◌, ◌<◌, ◌+◌, ◌*◌, ℕ, Bool, List, true};
+ghost use Rattle.std.specs.Prelude.{◌≡◌, ◌≤◌, ◌<◌, ◌+◌, ◌*◌, ℕ, Bool, List};
 ghost use Rattle.id_window.specs.History.{History};
+ghost use Rattle.outbox.specs.declared.kept.Kept.{Kept};
 ghost use Rattle.inbox.specs.declared.judged.Verdict.{Verdict};
 ghost use Rattle.server_rules.specs.Server.{Name};
-ghost use Rattle.server_answers.specs.Contents.{short_bytes_max};
+ghost use Rattle.server_dispatch.specs.Contents.{short_bytes_max};
 ghost use Rattle.server_output.specs.Items.{result_bytes};
 ghost use Rattle.server_session.specs.SessionState.{IsAt};
+ghost use Rattle.server_session.specs.Unsaid.{CallsFor};
 ghost use Rattle.server_session.specs.Says.{Keys, setting_of};
-ghost use Rattle.server_dispatch.specs.Action.{due_bytes, due_of, due_repeats};
+ghost use Rattle.server_dispatch.specs.Action.{due_bytes, due_calls, due_of};
 ghost use Rattle.server_dispatch.specs.Rings.{AreOf};
 ghost use Rattle.server_dispatch.specs.Spare.{HasSpare, Uses};
 ghost use Rattle.server_core.specs.Among.{Among, row_among};
@@ -45,7 +47,7 @@ pub(crate) fn settles<D: Draw>(
     due: Action,
     limit: usize,
 ) -> usize
-    requires room { HasSpare (due_repeats due) (2 + limit) (due_bytes due + limit * result_bytes short_bytes_max) (1 + limit) (2 + limit) standing.old turn.old }
+    requires room { HasSpare (due_calls number due) (2 + limit) (due_bytes due + limit * result_bytes short_bytes_max) (1 + limit) (2 + limit) standing.old turn.old }
     requires job_room { 0 < jobs.old.room }
     requires binding_room { 0 < bindings.old.room }
     requires at { IsAt now standing.old }
@@ -58,8 +60,8 @@ pub(crate) fn settles<D: Draw>(
         → SpeaksAmong now others.old standing.old turn.old jobs.old.jobs bindings.old.bindings draw.old among
         → blocked_of name jobs.new.jobs + result ≤ blocked_of name among.speaker.jobs + 1 }
     ensures few { result ≤ limit }
-    ensures uses { (again : Bool) → (due_repeats due ≡ true → again ≡ true)
-        → Uses again now (2 + result) (due_bytes due + result * result_bytes short_bytes_max) (1 + result) (2 + result) standing.old turn.old standing.new turn.new }
+    ensures uses { (called : Kept → Bool) → CallsFor (due_calls number due) called
+        → Uses called now (2 + result) (due_bytes due + result * result_bytes short_bytes_max) (1 + result) (2 + result) standing.old turn.old standing.new turn.new }
     ensures job_room_lasts { jobs.old.room ≤ jobs.new.room + 1 }
     ensures binding_room_lasts { bindings.old.room ≤ bindings.new.room + 1 }
     ensures left { AreLeft others.old others.new }
@@ -88,7 +90,7 @@ fn row<D: Draw>(
     number: u64,
     due: Action,
 )
-    requires room { HasSpare (due_repeats due) 2 (due_bytes due) 1 2 standing.old turn.old }
+    requires room { HasSpare (due_calls number due) 2 (due_bytes due) 1 2 standing.old turn.old }
     requires job_room { 0 < jobs.old.room }
     requires binding_room { 0 < bindings.old.room }
     requires at { IsAt now standing.old }
@@ -96,7 +98,7 @@ fn row<D: Draw>(
         → AreOf ring.now keys → due ≡ due_of number seq verdict body → IsSettling name past number verdict opened among
         → SpeaksAmong now others.old standing.old turn.old jobs.old.jobs bindings.old.bindings draw.old among
         → SpeaksAmong now others.new standing.new turn.new jobs.new.jobs bindings.new.bindings draw.new (row_among (setting_of now D.step keys) number seq verdict body among) }
-    ensures uses { (again : Bool) → (due_repeats due ≡ true → again ≡ true) → Uses again now 2 (due_bytes due) 1 2 standing.old turn.old standing.new turn.new }
+    ensures uses { (called : Kept → Bool) → CallsFor (due_calls number due) called → Uses called now 2 (due_bytes due) 1 2 standing.old turn.old standing.new turn.new }
     ensures job_room_lasts { jobs.old.room ≤ jobs.new.room + 1 }
     ensures binding_room_lasts { bindings.old.room ≤ bindings.new.room + 1 }
     ensures left { AreLeft others.old others.new }

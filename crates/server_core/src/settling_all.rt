@@ -1,19 +1,21 @@
 //! All judgements of a packet are settled.
 
-ghost use Rattle.std.specs.Prelude.{◌≡◌, ◌≤◌, ◌+◌, ◌*◌, ℕ, Bool, List, length, true};
+ghost use Rattle.std.specs.Prelude.{◌≡◌, ◌≤◌, ◌+◌, ◌*◌, ℕ, Bool, List, length};
 ghost use Rattle.std.specs.List.{sum_by};
 ghost use Rattle.id_window.specs.History.{History};
+ghost use Rattle.outbox.specs.declared.kept.Kept.{Kept};
 ghost use Rattle.server_rules.specs.Server.{Name};
-ghost use Rattle.server_answers.specs.Contents.{short_bytes_max};
+ghost use Rattle.server_dispatch.specs.Contents.{short_bytes_max};
 ghost use Rattle.server_output.specs.Items.{result_bytes};
 ghost use Rattle.server_session.specs.SessionState.{IsAt};
+ghost use Rattle.server_session.specs.Unsaid.{CallsFor};
 ghost use Rattle.server_session.specs.Says.{Keys, setting_of};
 ghost use Rattle.server_dispatch.specs.Rings.{AreOf};
 ghost use Rattle.server_dispatch.specs.Spare.{HasSpare, Uses};
 ghost use Rattle.server_core.specs.Among.{Among};
 ghost use Rattle.server_core.specs.Others.{AreLeft};
 ghost use Rattle.server_core.specs.Settling.{SpeaksAmong};
-ghost use Rattle.server_core.specs.SettlingAll.{AreDue, AreSettling, all_settled, due_most, some_repeats};
+ghost use Rattle.server_core.specs.SettlingAll.{AreDue, AreSettling, all_settled, calls_of, due_most};
 
 use crate::laws::{one_session_stays_alone, one_session_stays_in_order};
 use crate::others::Others;
@@ -22,7 +24,7 @@ use auth_keys::Ring;
 use draws::Draw;
 use inbox::Judgement;
 use msg_ids::Moment;
-use server_dispatch::{Action, Bindings, Turn};
+use server_dispatch::{Bindings, Due, Turn};
 use server_session::SessionState;
 use waits::Jobs;
 
@@ -39,11 +41,11 @@ pub(crate) fn settles_all<D: Draw>(
     ring: &Ring,
     draw: &mut D,
     judged: &[Judgement],
-    dues: Vec<Action>,
+    dues: Vec<Due>,
     limit: usize,
 )
     requires enough { length judged.now ≤ length dues.items }
-    requires room { HasSpare (some_repeats judged.now dues.items) (2 * length dues.items + limit) (sum_by due_most dues.items + limit * result_bytes short_bytes_max) (length dues.items + limit) (2 * length dues.items + limit) standing.old turn.old }
+    requires room { HasSpare (calls_of judged.now dues.items) (2 * length dues.items + limit) (sum_by due_most dues.items + limit * result_bytes short_bytes_max) (length dues.items + limit) (2 * length dues.items + limit) standing.old turn.old }
     requires job_room { length judged.now ≤ jobs.old.room }
     requires binding_room { length judged.now ≤ bindings.old.room }
     requires at { IsAt now standing.old }
@@ -51,15 +53,15 @@ pub(crate) fn settles_all<D: Draw>(
         → AreOf ring.now keys → AreDue judged.now bodies dues.items → AreSettling name past limit judged.now among
         → SpeaksAmong now others.old standing.old turn.old jobs.old.jobs bindings.old.bindings draw.old among
         → SpeaksAmong now others.new standing.new turn.new jobs.new.jobs bindings.new.bindings draw.new (all_settled (setting_of now D.step keys) judged.now bodies among) }
-    ensures uses { (again : Bool) → (some_repeats judged.now dues.items ≡ true → again ≡ true)
-        → Uses again now (2 * length dues.items + limit) (sum_by due_most dues.items + limit * result_bytes short_bytes_max) (length dues.items + limit) (2 * length dues.items + limit) standing.old turn.old standing.new turn.new }
+    ensures uses { (called : Kept → Bool) → CallsFor (calls_of judged.now dues.items) called
+        → Uses called now (2 * length dues.items + limit) (sum_by due_most dues.items + limit * result_bytes short_bytes_max) (length dues.items + limit) (2 * length dues.items + limit) standing.old turn.old standing.new turn.new }
     ensures left { AreLeft others.old others.new }
 {
     one_session_stays_alone::<D>();
     one_session_stays_in_order::<D>();
     let mut left = limit;
     for (judgement, due) in judged.iter().zip(dues) {
-        let due = due.judged(judgement.seq, &judgement.verdict);
+        let due = due.action.judged(judgement.seq, &judgement.verdict);
         left -= settles(
             turn,
             now,

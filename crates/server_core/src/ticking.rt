@@ -11,7 +11,7 @@ ghost use Rattle.server_core.specs.Effects.{Gives};
 use crate::effects::Effects;
 use crate::losing::lose_all_spent;
 use crate::reserving::{fresh_voices, reserves};
-use crate::server::{Server, later};
+use crate::server::Server;
 use crate::tick_laws::quiet_ticks_say_nothing;
 use draws::Draw;
 use envelope::Seal;
@@ -72,7 +72,7 @@ impl<S: Seal> Server<S> {
     {
         sessions_stand_later();
         quiet_ticks_say_nothing::<D>();
-        let moment = later(self.moment, now);
+        let moment = self.moment.later(now);
         if self.jobs.overdue(moment) == 0 {
             self.passes(alloc, moment)
         } else {

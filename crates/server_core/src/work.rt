@@ -22,7 +22,7 @@ ghost use Rattle.server_core.specs.Speech.{Begins};
 ghost use Rattle.server_core.specs.Working.{CanWork, Ends, IsRunning, worked};
 
 use crate::effects::Effects;
-use crate::server::{Server, later, lose_spent};
+use crate::server::{Server, lose_spent};
 use crate::sessions::Sessions;
 use crate::working::{self, Work, ready_at};
 use draws::Draw;
@@ -107,7 +107,7 @@ impl<S: Seal> Server<S> {
         ensures same_seal { self.new.seal ≡ self.old.seal }
     {
         sessions_stand_later();
-        let moment = later(self.moment, now);
+        let moment = self.moment.later(now);
         let job = ready_at(&self.jobs, k);
         let (key, session) = (job.key, job.session);
         match self.sessions.place(key, session) {

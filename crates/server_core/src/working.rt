@@ -19,14 +19,15 @@ ghost use Rattle.server_core.specs.Working.{CanWork, Ends, IsRunning, ran, run_b
 
 use crate::effects::Effects;
 use crate::failures::answers_failed;
+use crate::room::SHORT_RESULT_BYTES;
 use crate::speech::Speech;
 use draws::Draw;
 use envelope::Seal;
 use law_server::laws::{rows_keep_order, sessions_speak_for_themselves};
 use msg_ids::Moment;
 use octets::Memory;
+use outbox::Bytes;
 use regs_service::Service;
-use server_answers::Bytes;
 use server_dispatch::{Entries, Run, Turn};
 use server_session::SessionState;
 use std::alloc::Global;
@@ -34,9 +35,6 @@ use waits::{Job, Jobs};
 
 /// What an answer has around its reply, in bytes: its constructor and the number of its call.
 const RESULT_BYTES: usize = 12;
-
-/// What each short answer takes at most, in bytes.
-const SHORT_RESULT_BYTES: usize = 48;
 
 /// What the service will reply to a ready job, and the room for all that its session says then.
 #[derive(Drop)]

@@ -1,40 +1,28 @@
 -- What steps use up, of what they spend.
-use Rattle.std.proofs.Common.{◌≡◌, ◌≤◌, ◌+◌, ℕ, Bool, true, false, ap, refl, arith}
+use Rattle.std.proofs.Common.{◌≡◌, ◌≤◌, ◌+◌, ℕ, Bool, ap, refl, arith}
+use Rattle.outbox.specs.declared.kept.Kept.{Kept}
 use Rattle.outbox.specs.Replies.{Contents}
 use Rattle.server_output.specs.Dues.{Dues}
 use Rattle.server_session.specs.declared.session.SessionState.{SessionState}
-use Rattle.server_session.specs.SessionState.{outbox_of, replies_left}
+use Rattle.server_session.specs.SessionState.{replies_left}
 use Rattle.server_session.specs.Unsaid.{NoMoreUnsaid}
 use Rattle.server_dispatch.specs.declared.turn.Turn.{Turn}
 use Rattle.server_dispatch.specs.Speaks.{HasRoom, Spends}
 use Rattle.server_dispatch.specs.Spare.{HasSpare, Uses}
 
 -- the same kept replies leave as much room for further ones
-pub same-left : (standing after : SessionState) → outbox_of after ≡ outbox_of standing → replies_left standing ≤ replies_left after + 0
-same-left standing after same = let left = ap (λ (outbox : Contents). outbox.room) same in omega arith
+pub same-left : (before after : Contents) → after ≡ before → before.room ≤ after.room + 0
+same-left before after same = let left = ap (λ (outbox : Contents). outbox.room) same in omega arith
 
-pub used : (again : Bool) (now messages size answers replies : ℕ) (spent sized recorded kept : ℕ) (standing : SessionState) (turn : Turn) (after : SessionState) (left : Turn)
+pub used : (called : Kept → Bool) (now messages size answers replies : ℕ) (spent sized recorded kept : ℕ) (standing : SessionState) (turn : Turn) (after : SessionState) (left : Turn)
     → Spends now spent sized recorded standing turn after left → NoMoreUnsaid standing turn.owing after left.owing
     → replies_left standing ≤ replies_left after + kept
     → spent ≤ messages → sized ≤ size → recorded ≤ answers → kept ≤ replies
-    → Uses again now messages size answers replies standing turn after left
-used true now messages size answers replies spent sized recorded kept standing turn after left spends unsaid room few short entered fewer =
+    → Uses called now messages size answers replies standing turn after left
+used called now messages size answers replies spent sized recorded kept standing turn after left spends unsaid room few short entered fewer =
     record {
-      places = omega (arith, spends.places, unsaid.count);
-      bytes = omega (arith, spends.bytes, unsaid.bytes);
-      numbers = omega (arith, spends.numbers);
-      entries = omega (arith, spends.entries);
-      replies = omega arith;
-      places_taken = spends.places_taken;
-      bytes_taken = spends.bytes_taken;
-      key = spends.key;
-      number = spends.number;
-      at = spends.at;
-    }
-used false now messages size answers replies spent sized recorded kept standing turn after left spends unsaid room few short entered fewer =
-    record {
-      places = omega (arith, spends.places);
-      bytes = omega (arith, spends.bytes);
+      places = omega (arith, spends.places, unsaid.count called);
+      bytes = omega (arith, spends.bytes, unsaid.bytes called);
       numbers = omega (arith, spends.numbers);
       entries = omega (arith, spends.entries);
       replies = omega arith;
@@ -46,9 +34,9 @@ used false now messages size answers replies spent sized recorded kept standing 
     }
 
 -- where there is room beside, there is room
-pub has-room : (again : Bool) (messages size answers replies : ℕ) (needed sized recorded : ℕ) (standing : SessionState) (turn : Turn) → HasSpare again messages size answers replies standing turn
+pub has-room : (called : Kept → Bool) (messages size answers replies : ℕ) (needed sized recorded : ℕ) (standing : SessionState) (turn : Turn) → HasSpare called messages size answers replies standing turn
     → needed ≤ messages → sized ≤ size → recorded ≤ answers → HasRoom needed sized recorded standing turn
-has-room again messages size answers replies needed sized recorded standing turn spare few short entered =
+has-room called messages size answers replies needed sized recorded standing turn spare few short entered =
     record {
       places = omega (arith, spare.places);
       bytes = omega (arith, spare.bytes);
@@ -56,11 +44,11 @@ has-room again messages size answers replies needed sized recorded standing turn
       entries = omega (arith, spare.entries);
     }
 
-pub more-used : (again : Bool) (now messages size answers replies : ℕ) (spent sized recorded kept : ℕ) (standing : SessionState) (turn : Turn) (after : SessionState) (left : Turn)
-    → Uses again now spent sized recorded kept standing turn after left
+pub more-used : (called : Kept → Bool) (now messages size answers replies : ℕ) (spent sized recorded kept : ℕ) (standing : SessionState) (turn : Turn) (after : SessionState) (left : Turn)
+    → Uses called now spent sized recorded kept standing turn after left
     → spent ≤ messages → sized ≤ size → recorded ≤ answers → kept ≤ replies
-    → Uses again now messages size answers replies standing turn after left
-more-used again now messages size answers replies spent sized recorded kept standing turn after left uses few short entered fewer =
+    → Uses called now messages size answers replies standing turn after left
+more-used called now messages size answers replies spent sized recorded kept standing turn after left uses few short entered fewer =
     record {
       places = omega (arith, uses.places);
       bytes = omega (arith, uses.bytes);
@@ -74,9 +62,9 @@ more-used again now messages size answers replies spent sized recorded kept stan
       at = uses.at;
     }
 
-pub less-spare : (again : Bool) (messages size answers replies : ℕ) (needed sized recorded kept : ℕ) (standing : SessionState) (turn : Turn) → HasSpare again messages size answers replies standing turn
-    → needed ≤ messages → sized ≤ size → recorded ≤ answers → kept ≤ replies → HasSpare again needed sized recorded kept standing turn
-less-spare again messages size answers replies needed sized recorded kept standing turn spare few short entered fewer =
+pub less-spare : (called : Kept → Bool) (messages size answers replies : ℕ) (needed sized recorded kept : ℕ) (standing : SessionState) (turn : Turn) → HasSpare called messages size answers replies standing turn
+    → needed ≤ messages → sized ≤ size → recorded ≤ answers → kept ≤ replies → HasSpare called needed sized recorded kept standing turn
+less-spare called messages size answers replies needed sized recorded kept standing turn spare few short entered fewer =
     record {
       places = omega (arith, spare.places);
       bytes = omega (arith, spare.bytes);
@@ -86,8 +74,8 @@ less-spare again messages size answers replies needed sized recorded kept standi
     }
 
 -- as before, nothing is used
-pub none-used : (again : Bool) (now messages size answers replies : ℕ) (standing : SessionState) (turn : Turn) → Uses again now messages size answers replies standing turn standing turn
-none-used again now messages size answers replies standing turn =
+pub none-used : (called : Kept → Bool) (now messages size answers replies : ℕ) (standing : SessionState) (turn : Turn) → Uses called now messages size answers replies standing turn standing turn
+none-used called now messages size answers replies standing turn =
     record {
       places = omega arith;
       bytes = omega arith;
@@ -102,4 +90,4 @@ none-used again now messages size answers replies standing turn =
     }
 
 pub both-unsaid : (standing next after : SessionState) (owing owed left : Dues) → NoMoreUnsaid standing owing next owed → NoMoreUnsaid next owed after left → NoMoreUnsaid standing owing after left
-both-unsaid standing next after owing owed left one other = record { count = omega (arith, one.count, other.count); bytes = omega (arith, one.bytes, other.bytes) }
+both-unsaid standing next after owing owed left one other = record { count = λ called. omega (arith, one.count called, other.count called); bytes = λ called. omega (arith, one.bytes called, other.bytes called) }

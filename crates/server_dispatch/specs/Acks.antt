@@ -1,7 +1,7 @@
 -- Scaffolding, and no promise: judgements whose numbers are acknowledged.
 use Rattle.std.specs.Prelude.{ℕ, ◌&&◌, ◌==◌, not, Bool, if◌then◌else◌, List, [], ◌∷◌, ◌++◌}
 use Rattle.std.specs.List.{list_any}
-use Rattle.id_window.specs.Crossing.{is_odd}
+use Rattle.msg_ids.specs.Counters.{is_odd}
 use Rattle.inbox.specs.declared.judged.Judgement.{Judgement}
 use Rattle.server_rules.specs.Rows.{is_verdict_acked}
 

@@ -1,15 +1,18 @@
 -- What a judged message needs in an event: its row of the table, with what that row looks at and no more.
-use Rattle.std.specs.Prelude.{ℕ, ◌+◌, ◌≤◌, Bool, true, false, List, [], ◌∷◌, length, min, ⊤}
+use Rattle.std.specs.Prelude.{ℕ, ◌+◌, ◌≤◌, ◌||◌, Bool, List, [], ◌∷◌, length, min, ⊤}
 use Rattle.service_tl.specs.declared.item.Item.{Item}
 use Rattle.service_tl.specs.declared.item.Item.TheVariants.{RpcDropAnswer, GetFutureSalts, Ping, PingDelayDisconnect, DestroySession, MsgsAck, MsgsStateReq, MsgResendReq, InvokeAfterMsg, InvokeAfterMsgs, AuthBindTempAuthKey, Packed, Call, Broken}
 use Rattle.service_tl.specs.declared.lists.Message.{Message}
 use Rattle.salt_line.specs.Rows.{future_rows_max}
+use Rattle.outbox.specs.declared.kept.Kept.{Kept}
 use Rattle.inbox.specs.declared.judged.Verdict.{Verdict}
 use Rattle.inbox.specs.declared.judged.Verdict.TheVariants.{Accepted, Again, Noticed}
 use Rattle.inbox.specs.Kinds.{item_told}
 use Rattle.server_rules.specs.Calls.{each_once}
-use Rattle.server_answers.specs.Contents.{short_bytes_max}
+use Rattle.server_dispatch.specs.Contents.{short_bytes_max}
 use Rattle.server_output.specs.Items.{bad_salt_bytes, destroyed_bytes, ids_max, pong_bytes, result_bytes, salts_bytes, states_bytes}
+use Rattle.server_session.specs.Unsaid.{is_among, is_to}
+use Rattle.server_dispatch.specs.declared.dues.Due.{Due}
 use Rattle.server_dispatch.specs.declared.calls.CallDue.{CallDue}
 use Rattle.server_dispatch.specs.declared.action.Action.{Action}
 use Rattle.server_dispatch.specs.declared.action.Action.TheVariants.{Notice, CameAgain, Tells, Answers, Destroys, Nothing}
@@ -63,6 +66,9 @@ due_of number seq (Accepted item) body = accepted_needed number item body
 abbrev pub needed_of : Message → Action
 needed_of message = accepted_needed message.number (item_told message.body) message.body
 
+abbrev pub due_needed : Message → Due
+due_needed message = record { number = message.number; action = needed_of message }
+
 -- what it needs once it is judged so, where this is what it needs accepted
 abbrev pub due_by : ℕ → Verdict → Action → Action
 due_by seq (Noticed code) due = Notice seq code
@@ -77,15 +83,24 @@ IsItemShort _ = ⊤
 
 -- ---- how much it may owe at most
 
--- it may say kept replies again
-abbrev pub telling_repeats : Telling → Bool
-telling_repeats (Resends numbers) = true
-telling_repeats _ = false
+-- the numbers of the kept replies that it asks for
 
-abbrev pub due_repeats : Action → Bool
-due_repeats (CameAgain seq) = true
-due_repeats (Tells telling) = telling_repeats telling
-due_repeats _ = false
+abbrev pub telling_asks : Telling → List ℕ
+telling_asks (Resends numbers) = numbers
+telling_asks _ = []
+
+abbrev pub asked_by : Action → List ℕ
+asked_by (Tells telling) = telling_asks telling
+asked_by _ = []
+
+-- the kept replies that it calls for, as what the message of this number needs
+abbrev pub due_calls : ℕ → Action → (Kept → Bool)
+due_calls number (CameAgain seq) = is_to number
+due_calls number due = is_among (asked_by due)
+
+-- and those that a message may call for before it is judged
+abbrev pub may_call : Due → Kept → Bool
+may_call due kept = is_among (asked_by due.action) kept || is_to due.number kept
 
 -- the bytes of bodies beside these, in two messages at most
 

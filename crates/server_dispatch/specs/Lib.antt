@@ -1,3 +1,4 @@
+pub mod Contents
 pub mod Entries
 pub mod Bindings
 pub mod Speaks

@@ -5,12 +5,12 @@ ghost use Rattle.salt_line.specs.Rows.{future_rows_max};
 ghost use Rattle.server_output.specs.Items.{ids_max, salts_bytes, states_bytes};
 ghost use Rattle.server_dispatch.specs.declared.action.Action.TheVariants.{Answers};
 ghost use Rattle.server_dispatch.specs.declared.action.Answering.TheVariants.{ForService};
-ghost use Rattle.server_dispatch.specs.Action.{IsItemShort, accepted_needed, body_needed, call_needed, due_by, due_bytes, due_repeats, list_needed, telling_bytes, word_needed};
+ghost use Rattle.server_dispatch.specs.Action.{IsItemShort, accepted_needed, asked_by, body_needed, call_needed, due_by, due_bytes, list_needed, telling_asks, telling_bytes, word_needed};
 
 use crate::calls::CallDue;
 use inbox::Verdict;
 use octets::{IdList, Memory, Octets};
-use server_answers::Bytes;
+use outbox::Bytes;
 use service_tl::Item;
 use std::alloc::Global;
 use std::marker::Model;
@@ -154,14 +154,14 @@ impl Action {
         }
     }
 
-    /// Whether it may say again replies that are kept already.
-    pub fn repeats(&self) -> bool
-        ensures { result ≡ due_repeats self.now }
+    /// The numbers of the kept replies that it asks for. Takes no memory.
+    pub fn asked(&self) -> &[u64]
+        ensures { result.now ≡ asked_by self.now }
     {
-        matches!(
-            self,
-            Action::CameAgain { .. } | Action::Tells(Telling::Resends(_))
-        )
+        match self {
+            Action::Tells(telling) => telling_asks(telling),
+            _ => &[],
+        }
     }
 
     /// How many bytes the bodies may have at most of what it owes, beside replies that are kept already: at most 8,208, in
@@ -177,6 +177,15 @@ impl Action {
             Action::Destroys(_) => DESTROYED_BYTES,
             Action::Nothing => 0,
         }
+    }
+}
+
+fn telling_asks(telling: &Telling) -> &[u64]
+    ensures { result.now ≡ telling_asks telling.now }
+{
+    match telling {
+        Telling::Resends(asked) => asked.ids(),
+        _ => &[],
     }
 }
 

@@ -2,31 +2,28 @@
 
 ghost use Rattle.std.specs.Prelude.{◌≡◌, ◌+◌, ◌==◌, ◌&&◌, ◌||◌, nat_le, nat_lt, not, ℕ, List, option_map, IfOk};
 ghost use Rattle.std.specs.List.{filter, list_any};
-ghost use Rattle.inbox.specs.Kinds.{constructor_of};
+ghost use Rattle.service_tl.specs.Results.{constructor_of};
 ghost use Rattle.waits.specs.Jobs.{job_bytes, job_count};
 ghost use Rattle.waits.specs.Limits.{most_job_bytes, most_jobs};
 ghost use Rattle.temp_keys.specs.Checking.{is_temporary};
 ghost use Rattle.server_rules.specs.Server.{Session};
 ghost use Rattle.server_rules.specs.Waiting.{outlook};
 ghost use Rattle.server_rules.specs.Calls.{each_once, is_bound, is_in_vain, is_over, query_refusal};
-ghost use Rattle.server_answers.specs.Contents.{content_of};
+ghost use Rattle.server_dispatch.specs.Contents.{content_of};
 ghost use Rattle.server_session.specs.SessionState.{Stands};
 ghost use Rattle.server_dispatch.specs.Action.{call_needed};
 
 use crate::bindings::Bindings;
+use crate::short::Short;
 use auth_keys::{KeyKind, Ring};
-use byteorder::{ByteOrder, LittleEndian};
 use msg_ids::Moment;
 use octets::{IdList, Memory};
-use server_answers::{Bytes, Short};
+use outbox::Bytes;
 use server_session::{Outlook, SessionState};
-use service_tl::{GZIP_PACKED, is_service};
+use service_tl::{GZIP_PACKED, constructor_of, is_service};
 use std::alloc::Global;
 use std::marker::Model;
 use waits::{JOB_BYTES_MAX, JOBS_MAX, Jobs};
-
-/// The bytes of a constructor.
-const CONSTRUCTOR_BYTES: usize = 4;
 
 /// The numbers that a call waits for. Contracts see the list.
 #[derive(Debug, Drop)]
@@ -123,16 +120,6 @@ pub(crate) fn query_refusal(query: &[u8]) -> Option<Short>
     } else {
         None
     }
-}
-
-// The constructor that begins a body; none where it has fewer than 4 bytes.
-fn constructor_of(body: &[u8]) -> Option<u32>
-    ensures { result ≡ constructor_of body.now }
-{
-    if body.len() < CONSTRUCTOR_BYTES {
-        return None;
-    }
-    Some(LittleEndian::read_u32(body))
 }
 
 /// Whether a key is a temporary one that is bound to none now.

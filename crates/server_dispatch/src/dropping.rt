@@ -8,7 +8,7 @@ ghost use Rattle.server_rules.specs.Calls.{drops_answer, drops_by};
 ghost use Rattle.server_rules.specs.Event.{Speaker};
 ghost use Rattle.server_rules.specs.Server.{Binding, Name};
 ghost use Rattle.law_server.specs.Order.{AreReplies, IsSpeaking, IsUnanswered};
-ghost use Rattle.server_answers.specs.Contents.{short_bytes_max};
+ghost use Rattle.server_dispatch.specs.Contents.{short_bytes_max};
 ghost use Rattle.server_output.specs.Items.{result_bytes};
 ghost use Rattle.server_session.specs.Fates.{kept_to};
 ghost use Rattle.server_session.specs.SessionState.{replies_left};
@@ -16,11 +16,11 @@ ghost use Rattle.server_session.specs.Says.{Keys, setting_of};
 ghost use Rattle.server_session.specs.Unsaid.{NoMoreUnsaid};
 ghost use Rattle.server_dispatch.specs.Speaks.{HasRoom, Speaks, Spends};
 
+use crate::short::Short;
 use crate::turn::Turn;
 use draws::Draw;
 use law_server::laws::speech_keeps_order;
 use msg_ids::Moment;
-use server_answers::Short;
 use server_session::SessionState;
 use waits::Jobs;
 

@@ -4,7 +4,7 @@ ghost use Rattle.std.specs.Prelude.{◌≡◌, ◌<◌, ◌+◌, ◌++◌, ◌�
 ghost use Rattle.server_dispatch.specs.Entries.{entry_told};
 
 use octets::Memory;
-use server_answers::Bytes;
+use outbox::Bytes;
 use std::alloc::Global;
 use std::marker::Model;
 

@@ -2,6 +2,7 @@
 
 ghost use Rattle.std.specs.Prelude.{◌≡◌, ◌≤◌, ◌<◌, ◌+◌, ◌∷◌, ℕ, Bool, List, false, true};
 ghost use Rattle.id_window.specs.History.{History};
+ghost use Rattle.outbox.specs.declared.kept.Kept.{Kept};
 ghost use Rattle.inbox.specs.declared.judged.Verdict.{Verdict};
 ghost use Rattle.waits.specs.Jobs.{Queue};
 ghost use Rattle.server_rules.specs.Event.{Speaker};
@@ -9,8 +10,9 @@ ghost use Rattle.server_rules.specs.Rows.{owes};
 ghost use Rattle.server_rules.specs.Server.{Binding, Name};
 ghost use Rattle.law_server.specs.Order.{AreReplies, IsSpeaking};
 ghost use Rattle.server_session.specs.SessionState.{IsAt};
+ghost use Rattle.server_session.specs.Unsaid.{CallsFor, is_among};
 ghost use Rattle.server_session.specs.Says.{Keys, setting_of};
-ghost use Rattle.server_dispatch.specs.Action.{answering_bytes, due_bytes, due_of, due_repeats, telling_bytes, telling_repeats};
+ghost use Rattle.server_dispatch.specs.Action.{answering_bytes, due_bytes, due_calls, due_of, telling_asks, telling_bytes};
 ghost use Rattle.server_dispatch.specs.Owed.{IsCallOf, answers_so, open_with, tells_so};
 ghost use Rattle.server_dispatch.specs.Rings.{AreOf};
 ghost use Rattle.server_dispatch.specs.Spare.{HasSpare, Uses};
@@ -18,18 +20,18 @@ ghost use Rattle.server_dispatch.specs.Speaks.{Speaks};
 
 use crate::action::{Action, Answering, Telling};
 use crate::bindings::Bindings;
+use crate::short::Short;
 use crate::turn::Turn;
 use auth_keys::Ring;
 use draws::Draw;
 use msg_ids::Moment;
-use server_answers::Short;
 use server_session::SessionState;
 use waits::Jobs;
 
 impl Turn {
     /// What the session owes for the judgement of the message of this number, by what that needs. `Action::Destroys` owes
-    /// nothing here, since it touches another session. Room for a job and for a binding has to be reserved, and where the
-    /// due may repeat, room for all kept replies that weren't said in this event. Takes no memory.
+    /// nothing here, since it touches another session. Room for a job and for a binding has to be reserved, and room for the
+    /// kept replies that the due calls for and that weren't said in this event. Takes no memory.
     pub fn owes<D: Draw>(
         &mut self,
         now: Moment,
@@ -41,7 +43,7 @@ impl Turn {
         number: u64,
         due: Action,
     )
-        requires room { HasSpare (due_repeats due) 2 (due_bytes due) 1 2 standing.old self.old }
+        requires room { HasSpare (due_calls number due) 2 (due_bytes due) 1 2 standing.old self.old }
         requires job_room { 0 < jobs.old.room }
         requires binding_room { 0 < bindings.old.room }
         requires at { IsAt now standing.old }
@@ -49,7 +51,7 @@ impl Turn {
             → AreOf ring.now keys → due ≡ due_of number seq verdict body → IsSpeaking name others past (open_with number verdict opened) speaker
             → Speaks now standing.old self.old jobs.old.jobs bindings.old.bindings draw.old speaker
             → Speaks now standing.new self.new jobs.new.jobs bindings.new.bindings draw.new (owes (setting_of now D.step keys) number seq verdict body speaker) }
-        ensures uses { (again : Bool) → (due_repeats due ≡ true → again ≡ true) → Uses again now 2 (due_bytes due) 1 2 standing.old self.old standing.new self.new }
+        ensures uses { (called : Kept → Bool) → CallsFor (due_calls number due) called → Uses called now 2 (due_bytes due) 1 2 standing.old self.old standing.new self.new }
         ensures job_room_lasts { jobs.old.room ≤ jobs.new.room + 1 }
         ensures binding_room_lasts { bindings.old.room ≤ bindings.new.room + 1 }
     {
@@ -75,13 +77,13 @@ impl Turn {
         number: u64,
         telling: &Telling,
     )
-        requires room { HasSpare (telling_repeats telling.now) 2 (telling_bytes telling.now) 1 2 standing.old self.old }
+        requires room { HasSpare (is_among (telling_asks telling.now)) 2 (telling_bytes telling.now) 1 2 standing.old self.old }
         requires at { IsAt now standing.old }
         ensures speaks { (keys : Keys) (jobs : Queue) (bindings : List Binding) (speaker : Speaker D)
             → AreReplies speaker.session.history speaker.session.replies speaker.session.counters.last
             → Speaks now standing.old self.old jobs bindings draw.old speaker
             → Speaks now standing.new self.new jobs bindings draw.new (tells_so (setting_of now D.step keys) number telling.now speaker) }
-        ensures uses { (again : Bool) → (telling_repeats telling.now ≡ true → again ≡ true) → Uses again now 2 (telling_bytes telling.now) 1 2 standing.old self.old standing.new self.new }
+        ensures uses { (called : Kept → Bool) → CallsFor (is_among (telling_asks telling.now)) called → Uses called now 2 (telling_bytes telling.now) 1 2 standing.old self.old standing.new self.new }
     {
         match telling {
             Telling::Pongs(ping) => self.answers_ping::<D>(now, standing, number, *ping),
@@ -103,14 +105,14 @@ impl Turn {
         number: u64,
         answering: Answering,
     )
-        requires room { HasSpare false 2 answering_bytes 1 2 standing.old self.old }
+        requires room { HasSpare (λ kept. false) 2 answering_bytes 1 2 standing.old self.old }
         requires job_room { 0 < jobs.old.room }
         requires binding_room { 0 < bindings.old.room }
         ensures speaks { (keys : Keys) (numbers : List ℕ) (draw : D) (speaker : Speaker D) (name : Name) (others : Name → Queue) (past : History) (opened : List ℕ)
             → AreOf ring.now keys → IsCallOf number numbers answering → IsSpeaking name others past (number ∷ opened) speaker
             → Speaks now standing.old self.old jobs.old.jobs bindings.old.bindings draw speaker
             → Speaks now standing.new self.new jobs.new.jobs bindings.new.bindings draw (answers_so (setting_of now D.step keys) number numbers answering speaker) }
-        ensures uses { (again : Bool) → Uses again now 2 answering_bytes 1 2 standing.old self.old standing.new self.new }
+        ensures uses { (called : Kept → Bool) → Uses called now 2 answering_bytes 1 2 standing.old self.old standing.new self.new }
         ensures job_room_lasts { jobs.old.room ≤ jobs.new.room + 1 }
         ensures binding_room_lasts { bindings.old.room ≤ bindings.new.room + 1 }
     {

@@ -1,6 +1,7 @@
 //! What a session owes to messages that came again, to acknowledgements and to requests for states.
 
-ghost use Rattle.std.specs.Prelude.{◌≡◌, ◌≤◌, ℕ, List, length, true};
+ghost use Rattle.std.specs.Prelude.{◌≡◌, ◌≤◌, ℕ, Bool, List, length, true};
+ghost use Rattle.outbox.specs.declared.kept.Kept.{Kept};
 ghost use Rattle.waits.specs.Jobs.{Queue};
 ghost use Rattle.server_rules.specs.Event.{Speaker};
 ghost use Rattle.server_rules.specs.Rows.{came_again, sends_again, takes_acks, tells_states};
@@ -9,7 +10,7 @@ ghost use Rattle.law_server.specs.Order.{AreReplies};
 ghost use Rattle.server_output.specs.Items.{bad_salt_bytes, ids_max, states_bytes};
 ghost use Rattle.server_session.specs.SessionState.{IsAt, outbox_of, replies_left};
 ghost use Rattle.server_session.specs.Says.{Keys, setting_of};
-ghost use Rattle.server_session.specs.Unsaid.{NoMoreUnsaid};
+ghost use Rattle.server_session.specs.Unsaid.{CallsFor, NoMoreUnsaid, is_among, is_to};
 ghost use Rattle.server_dispatch.specs.Spare.{HasSpare, Uses};
 ghost use Rattle.server_dispatch.specs.Speaks.{HasRoom, Speaks, Spends};
 
@@ -18,15 +19,12 @@ use draws::Draw;
 use inbox::Mark;
 use msg_ids::Moment;
 use server_session::SessionState;
-
-/// The code of the notice that a message is too old to be known
-/// (core.telegram.org/mtproto/service_messages_about_messages, "Notice of Ignored Error Message").
-const TOO_OLD: u32 = 20;
+use service_tl::codes::FORGOTTEN;
 
 impl Turn {
     /// What the session owes to a message that came again, by the mark that its number has now: its notice, its kept reply
-    /// unless that was said in this event, notice 20 where the reply was dropped, and else nothing. The room for a kept
-    /// reply is of that for all that weren't said.
+    /// unless that was said in this event, notice 20 where the reply was dropped, and else nothing. Beside the notice there is
+    /// room for the kept reply unless it was said.
     pub fn came_again<D: Draw>(
         &mut self,
         now: Moment,
@@ -35,17 +33,17 @@ impl Turn {
         number: u64,
         seq: u32,
     )
-        requires room { HasSpare true 1 bad_salt_bytes 0 0 standing.old self.old }
+        requires room { HasSpare (is_to number) 1 bad_salt_bytes 0 0 standing.old self.old }
         requires at { IsAt now standing.old }
         ensures speaks { (keys : Keys) (jobs : Queue) (bindings : List Binding) (speaker : Speaker D) → Speaks now standing.old self.old jobs bindings draw.old speaker
             → Speaks now standing.new self.new jobs bindings draw.new (came_again (setting_of now D.step keys) number seq (mark_in speaker.session number) speaker) }
-        ensures uses { Uses true now 1 bad_salt_bytes 0 0 standing.old self.old standing.new self.new }
+        ensures uses { (called : Kept → Bool) → CallsFor (is_to number) called → Uses called now 1 bad_salt_bytes 0 0 standing.old self.old standing.new self.new }
         ensures same_replies { outbox_of standing.new ≡ outbox_of standing.old }
     {
         match standing.mark(number) {
             Some(Mark::Noticed(code)) => self.notices(now, standing, draw, number, seq, code),
             Some(Mark::Replied(_)) => standing.says_kept::<D>(&mut self.owing, number),
-            Some(Mark::Dropped(_)) => self.notices(now, standing, draw, number, seq, TOO_OLD),
+            Some(Mark::Dropped(_)) => self.notices(now, standing, draw, number, seq, FORGOTTEN),
             _ => {}
         }
     }
@@ -82,8 +80,8 @@ impl Turn {
     }
 
     /// The session answers the request in this message for the replies of these numbers: where it keeps all of them it says
-    /// them once more, each unless it was said in this event, and else it tells how far these messages are. The room for
-    /// kept replies is of that for all that weren't said.
+    /// them once more, each unless it was said in this event, and else it tells how far these messages are. Beside that there
+    /// is room for those of them that weren't said.
     pub fn sends_again<D: Draw>(
         &mut self,
         now: Moment,
@@ -92,10 +90,10 @@ impl Turn {
         ids: &[u64],
     )
         requires few { length ids.now ≤ ids_max }
-        requires room { HasSpare true 1 (states_bytes (length ids.now)) 0 0 standing.old self.old }
+        requires room { HasSpare (is_among ids.now) 1 (states_bytes (length ids.now)) 0 0 standing.old self.old }
         ensures speaks { (keys : Keys) (jobs : Queue) (bindings : List Binding) (draw : D) (speaker : Speaker D) → Speaks now standing.old self.old jobs bindings draw speaker
             → Speaks now standing.new self.new jobs bindings draw (sends_again (setting_of now D.step keys) request ids.now speaker) }
-        ensures uses { Uses true now 1 (states_bytes (length ids.now)) 0 0 standing.old self.old standing.new self.new }
+        ensures uses { (called : Kept → Bool) → CallsFor (is_among ids.now) called → Uses called now 1 (states_bytes (length ids.now)) 0 0 standing.old self.old standing.new self.new }
         ensures same_replies { outbox_of standing.new ≡ outbox_of standing.old }
     {
         standing.sends_again::<D>(now, &mut self.owing, request, ids);

@@ -6,7 +6,8 @@ use Rattle.std.specs.List.{filter}
 use Rattle.mt_edge.specs.Links.{Told}
 use Rattle.server_output.specs.declared.outs.Out.{Out}
 use Rattle.transport.specs.Wires.{Line}
-use Rattle.server_node.specs.Frames.{AreFramesOf, Spells}
+use Rattle.server_node.specs.Frames.{AreFramesOf}
+use Rattle.transport.specs.Spelt.{Spells}
 use Rattle.server_node.specs.Steps.{Framings, IsSameIn, Said, goes_out, going_out}
 use Rattle.server_node.specs.Writes.{WrittenBy}
 use Rattle.server_node.specs.declared.conn.ConnEnd.TheVariants as ends

@@ -24,7 +24,7 @@ use Rattle.server_node.specs.Coming.{SameOut}
 use Rattle.server_node.specs.Coming as coming
 use Rattle.server_node.specs.Doing.{Did, IsPart, Serves, Side, Stands, StandsBy}
 use Rattle.server_node.specs.Names.{was_heard, with_name}
-use Rattle.server_node.specs.Frames.{Spells}
+use Rattle.transport.specs.Spelt.{Spells}
 use Rattle.server_node.specs.Steps.{HearsAlike, IsQuiet, IsSendEnd, LineTells, Said, SentBy}
 use Rattle.server_node.specs.Trace.{Act, Attach, Hear, IsOutside, IsRead, Outside, Rules, Talk, after_act, first_acts, hears_as, moment_at, name_in, rules_of}
 use Rattle.server_node.specs.Writes.{WrittenBy, unknown_key}

@@ -9,7 +9,8 @@ use Rattle.transport.specs.Starts.{IsAwaited, Opening, Starts}
 use Rattle.transport.specs.Wires.{Hears, Line}
 use Rattle.server_node.specs.Coming.{Fed, HeardAll, packets_max}
 use Rattle.server_node.specs.Connection.{AreFirst, AreWhole, IsFaulty, IsStream, IsText, IsTextOfFront, OwesBy}
-use Rattle.server_node.specs.Frames.{AreFramesOf, Spells}
+use Rattle.server_node.specs.Frames.{AreFramesOf}
+use Rattle.transport.specs.Spelt.{Spells}
 use Rattle.server_node.specs.Steps.{HearsAlike, LineFront, LineTells, SentBy}
 use Rattle.server_node.specs.Turns.{IsFramed, IsLine, IsRaw, came_max}
 use Rattle.server_node.specs.declared.conn.ConnEnd.{ConnEnd}

@@ -5,7 +5,8 @@ use Rattle.cipher_modes.specs.CounterMode.{CtrState}
 use Rattle.mt_edge.specs.Links.{Told}
 use Rattle.server_output.specs.declared.outs.Out.{Out}
 use Rattle.transport.specs.Wires as wires
-use Rattle.server_node.specs.Frames.{AreFramesOf, Spells}
+use Rattle.server_node.specs.Frames.{AreFramesOf}
+use Rattle.transport.specs.Spelt.{Spells}
 use Rattle.server_node.specs.Names.{was_heard}
 use Rattle.server_node.specs.Writes.{WrittenBy}
 use Rattle.server_node.specs.declared.conn.ConnEnd.{ConnEnd}

@@ -8,7 +8,7 @@ use Rattle.transport.specs.Starts.{IsAwaited, Opening, Starts}
 use Rattle.transport.specs.Wires.{Hears, Line}
 use Rattle.server_node.specs.Connection.{AreTurns, BreaksBy, Close, ClosesBehind, ClosesSo, Gave, IsPieceSize, IsTurn, OwesBy, Passed, PassedBy, Place, ShowsClose, Sight, Turn, began, closes, end_by, gets, turned, turns_from}
 use Rattle.server_node.specs.Doing.{Side, Stands, StandsBy}
-use Rattle.server_node.specs.Frames.{Spells}
+use Rattle.transport.specs.Spelt.{Spells}
 use Rattle.server_node.specs.Record.{piece_bytes, turns_max, with_answered}
 use Rattle.server_node.specs.Trace.{IsOutside, Outside, Rules, Talk, rules_of}
 use Rattle.server_node.specs.Writes.{WrittenBy}

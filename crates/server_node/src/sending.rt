@@ -9,11 +9,11 @@ ghost use Rattle.server_node.specs.declared.heard.SessionName.{SessionName as Na
 use crate::conn::ConnEnd;
 use crate::heard::{HeardSessions, SessionName};
 use crate::line::Line;
-use cipher_modes::laws::{ctr_pieces_equal_the_whole, ctr_undoes_itself};
 use mt_edge::{Link, Put};
 use octets::{Memory, Octets};
 use server_output::{Out, Outs};
 use std::alloc::Global;
+use transport::laws::a_packet_more_is_spelt;
 use transport::{Framed, Wire};
 
 /// Writes a whole piece to a link.
@@ -54,8 +54,7 @@ fn put_one(
     ensures framed { OnOk result (Framings wire.old text.old (packet.now ∷ []) wire.new text.new) }
     ensures same_in { IsSameIn wire.old wire.new }
 {
-    ctr_pieces_equal_the_whole();
-    ctr_undoes_itself();
+    a_packet_more_is_spelt();
     wire.put(alloc, packet, text)?;
     Ok(())
 }

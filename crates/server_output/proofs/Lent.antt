@@ -7,7 +7,7 @@ use Rattle.containers.specs.declared.part.Part.{Part}
 use Rattle.containers.specs.Lent.{message_of}
 use Rattle.containers.specs.Container.{container_of, size_of}
 use Rattle.packing.specs.Packing.{IsPacket, groups, packed}
-use Rattle.server_output.specs.declared.packets.Place.{Place}
+use Rattle.octets.specs.Draft.{Draft}
 use Rattle.server_output.specs.Batch.{IsPlace}
 use Rattle.server_output.proofs.Left.{IsLeft, FitsBody, left-take, packet-fits}
 
@@ -56,12 +56,12 @@ all-others P [] ys all = tt
 all-others P (x ∷ xs) ys all = (all.0, all-others P xs ys all.1)
 
 -- the place that is taken, and those that are left
-pub place-taken : (most : ℕ) (places others : List Place) (place : Place) → places ≡ others ++ place ∷ [] → AllByRecursion (IsPlace most) places → IsPlace most place
+pub place-taken : (most : ℕ) (places others : List Draft) (place : Draft) → places ≡ others ++ place ∷ [] → AllByRecursion (IsPlace most) places → IsPlace most place
 place-taken most places others place are all =
-    let P : List Place → Type 0 = AllByRecursion (IsPlace most) in
+    let P : List Draft → Type 0 = AllByRecursion (IsPlace most) in
     all-last (IsPlace most) others place (subst P are all)
 
-pub places-left : (most : ℕ) (places others : List Place) (place : Place) → places ≡ others ++ place ∷ [] → AllByRecursion (IsPlace most) places → AllByRecursion (IsPlace most) others
+pub places-left : (most : ℕ) (places others : List Draft) (place : Draft) → places ≡ others ++ place ∷ [] → AllByRecursion (IsPlace most) places → AllByRecursion (IsPlace most) others
 places-left most places others place are all =
-    let P : List Place → Type 0 = AllByRecursion (IsPlace most) in
+    let P : List Draft → Type 0 = AllByRecursion (IsPlace most) in
     all-others (IsPlace most) others (place ∷ []) (subst P are all)

@@ -1,6 +1,6 @@
 -- The room for all packets of a session's messages.
 use Rattle.std.specs.Prelude.{◌≡◌, ℕ, ◌+◌, ◌*◌, ◌/◌, ◌&&◌, nat_le, Bool, min, if◌then◌else◌, []}
-use Rattle.server_output.specs.declared.packets.Place.{Place}
+use Rattle.octets.specs.Draft.{Draft}
 
 -- For what there is room: any list of so many messages at most, whose bodies have so many bytes together at most.
 pub record Batch : Type 0 where
@@ -30,6 +30,5 @@ abbrev pub seal_most : ℕ
 seal_most = 83
 
 -- Scaffolding, and no promise: the room for one packet, whose body has so many bytes at most.
-pub record IsPlace (body : ℕ) (place : Place) : Type 0 where
-  pub body_is : place.body ≡ record { bytes = []; room = body }
-  pub packet_is : place.packet ≡ record { bytes = []; room = body + seal_most }
+abbrev pub IsPlace : ℕ → Draft → Type 0
+IsPlace body place = place ≡ record { bytes = []; room = body + seal_most }

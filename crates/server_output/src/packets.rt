@@ -16,7 +16,7 @@ use crate::owing::OutgoingMessages;
 use containers::Part;
 use containers::laws::container_sizes;
 use draws::Draw;
-use envelope::{Dir, Envelope, Seal};
+use envelope::{Dir, Head, SEALED_HEAD_BYTES, Seal};
 use msg_ids::{Moment, Numbers};
 use octets::{Buffer, Memory};
 use packing::{front, pack};
@@ -62,23 +62,16 @@ fn packed_most(messages: usize, bytes: usize) -> usize
     PACKET_BYTES.min(CONTAINER_BYTES + HEAD_BYTES * messages + bytes)
 }
 
-// Room for a packet: for its body, and for the packet that is sealed of it.
-#[derive(Debug, Drop)]
-struct Place {
-    body: Buffer,
-    packet: Buffer,
-}
-
 /// The room for all packets of a session's messages. Contracts see for how many messages it is, and for how many bytes of
 /// bodies together: what an `OutgoingMessages` owes that has no more room than that can be put into packets and sealed without memory.
 ///
-/// A packet's body is put together in a buffer of its own and then sealed into another, so each body is copied twice.
+/// A packet is put together and sealed in one buffer, so each body is copied once.
 #[derive(Debug, Drop)]
 pub struct Packets {
     messages: usize,
     bytes: usize,
     parts: Vec<Part<'static>>,
-    places: Vec<Place>,
+    places: Vec<Buffer>,
 }
 
 impl Model for Packets {
@@ -165,17 +158,14 @@ impl Packets {
 }
 
 // So many places for packets, whose bodies have so many bytes at most.
-fn places(alloc: Global, count: usize, body: usize) -> Result<Vec<Place>, Memory>
+fn places(alloc: Global, count: usize, body: usize) -> Result<Vec<Buffer>, Memory>
     requires { body ≤ 2 ^ 49 }
     ensures count { IfOk result (λ places. vec_len places ≡ count) }
     ensures places { IfOk result (λ places. AllByRecursion (IsPlace body) places.items) }
 {
     let mut places = Vec::with_capacity(alloc, count)?;
     'places: while places.len() < count {
-        places.push_reserved(Place {
-            body: Buffer::new(alloc, body)?,
-            packet: Buffer::new(alloc, body + SEAL_BYTES)?,
-        });
+        places.push_reserved(Buffer::new(alloc, body + SEAL_BYTES)?);
     }
     Ok(places)
 }
@@ -186,7 +176,7 @@ fn sealed<S: Seal, D: Draw>(
     numbers: &mut Numbers,
     group: &[Part<'_>],
     header: Header,
-    place: Place,
+    place: Buffer,
     seal: &S,
     draw: &mut D,
 ) -> Out
@@ -194,27 +184,26 @@ fn sealed<S: Seal, D: Draw>(
     requires words { length (packed (map message_of group.now)) % 4 ≡ 0 }
     requires short { length (packed (map message_of group.now)) ≤ body_max }
     requires numbers { 0 < room numbers.old }
-    requires body { (place.body.bytes ≡ []) × (length (packed (map message_of group.now)) ≤ place.body.room) }
-    requires room { (place.packet.bytes ≡ []) × (length (packed (map message_of group.now)) + seal_most ≤ place.packet.room) }
+    requires room { (place.bytes ≡ []) × (length (packed (map message_of group.now)) + seal_most ≤ place.room) }
     requires key { IsSome (entry_of header.key (S.keys seal.now)) }
     ensures sent { IsSent S.lock (S.keys seal.now) (one_sent D.step header (outer_of now numbers.old (map message_of group.now)) draw.old) result }
     ensures counted { numbers.new ≡ after_outer now numbers.old (map message_of group.now) }
     ensures drawn { draw.new ≡ draw_after_one D.step (outer_of now numbers.old (map message_of group.now)) draw.old }
     ensures room_lasts { room numbers.old ≤ room numbers.new + 1 }
 {
-    let Place { mut body, packet } = place;
-    let (number, seq) = pack(now, numbers, group, &mut body);
-    let envelope = Envelope {
+    let mut packet = place;
+    packet.push_all(&[0; SEALED_HEAD_BYTES]);
+    let (number, seq) = pack(now, numbers, group, &mut packet);
+    let head = Head {
         key: header.key,
         salt: header.salt,
         session: header.session,
         number,
         seq,
-        body: body.into_octets(),
     };
     Out {
         key: header.key,
         session: header.session,
-        packet: seal.seal_in(packet, Dir::Down, &envelope, draw),
+        packet: seal.seal_in_place(packet, Dir::Down, &head, draw),
     }
 }

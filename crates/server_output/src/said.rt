@@ -12,14 +12,12 @@ ghost use Rattle.server_output.specs.Items.{CanBeSaid, IsTimely, item_of, said_b
 use msg_ids::{Moment, Numbers};
 use octets::Buffer;
 use salt_line::SaltRow;
+use service_tl::codes::WRONG_SALT;
 use service_tl::{
     BAD_MSG_NOTIFICATION, BAD_SERVER_SALT, DESTROY_SESSION_NONE, DESTROY_SESSION_OK, FUTURE_SALTS,
     MSGS_ACK, MSGS_STATE_INFO, NEW_SESSION_CREATED, PONG, RPC_RESULT,
 };
 use tl_codec::fill;
-
-/// The code of a wrong salt.
-const WRONG_SALT: u32 = 48;
 
 /// What is added to the number of a response to a client's message.
 const RESPONSE_ADDITION: u64 = 1;

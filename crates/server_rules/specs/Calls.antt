@@ -8,7 +8,7 @@ use Rattle.tl_codec.specs.Spelling.{Truth, spelling}
 use Rattle.service_tl.specs.declared.item.Item.TheVariants.{RpcAnswerUnknown, RpcAnswerDroppedRunning, RpcAnswerDropped}
 use Rattle.service_tl.specs.Items.{spelling_of}
 use Rattle.service_tl.specs.Schema.{service_numbers, gzip_packed}
-use Rattle.inbox.specs.Kinds.{constructor_of}
+use Rattle.service_tl.specs.Results.{constructor_of}
 use Rattle.waits.specs.Limits.{most_jobs, most_job_bytes}
 use Rattle.waits.specs.declared.job.Job.{Job}
 use Rattle.waits.specs.Jobs.{accepted, job_count, job_bytes, load_of, first_job, without_first, is_call}

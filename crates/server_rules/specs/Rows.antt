@@ -11,7 +11,7 @@ use Rattle.salt_line.specs.Rows.{future_rows_max}
 use Rattle.salt_line.specs.Future.{salt_rows}
 use Rattle.id_window.specs.declared.mark.Mark.{Mark}
 use Rattle.id_window.specs.declared.mark.Mark.TheVariants.{Noticed as MarkNoticed, Service, Waiting, Replied, Acked, Dropped}
-use Rattle.id_window.specs.Crossing.{is_odd}
+use Rattle.msg_ids.specs.Counters.{is_odd}
 use Rattle.inbox.specs.declared.judged.Verdict.{Verdict}
 use Rattle.inbox.specs.declared.judged.Verdict.TheVariants.{Accepted, Again, Noticed}
 use Rattle.inbox.specs.declared.judged.Judgement.{Judgement}

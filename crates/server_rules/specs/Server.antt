@@ -7,12 +7,11 @@ use Rattle.msg_ids.specs.Counters.{Counters}
 use Rattle.salt_line.specs.Line.{Line}
 use Rattle.service_tl.specs.declared.item.Item.TheVariants.{RpcResult}
 use Rattle.service_tl.specs.Items.{spelling_of}
-use Rattle.service_tl.specs.Schema.{rpc_error, rpc_answer_dropped_running}
+use Rattle.service_tl.specs.Results.{is_good}
 use Rattle.id_window.specs.declared.mark.Mark.{Mark}
 use Rattle.id_window.specs.declared.mark.Mark.TheVariants.{Noticed, Service, Container, Waiting, Replied, Acked, Dropped}
 use Rattle.id_window.specs.Marks.{Marks}
 use Rattle.id_window.specs.History.{History, Outcome, Refused, AcceptedContainer, AcceptedCall, AcceptedOther, found}
-use Rattle.inbox.specs.Kinds.{constructor_of}
 use Rattle.inbox.specs.Judging.{Session as Remembered}
 use Rattle.inbox.specs.Inbox.{was_heard}
 use Rattle.outbox.specs.declared.kept.Kept.{Kept}
@@ -51,14 +50,6 @@ kept_of reply =
 -- the replies that are kept, in order of making
 abbrev pub kept_replies : List Reply → Replies
 kept_replies replies = map kept_of (filter is_kept replies)
-
--- a content is good where it begins with neither `rpc_error` nor `rpc_answer_dropped_running`
-abbrev pub is_good_beginning : Option ℕ → Bool
-is_good_beginning None = true
-is_good_beginning (Some number) = not (number == rpc_error.number) && not (number == rpc_answer_dropped_running.number)
-
-abbrev pub is_good : List ℕ → Bool
-is_good content = is_good_beginning (constructor_of content)
 
 -- ---- sessions
 

@@ -11,7 +11,7 @@ ghost use Rattle.id_window.specs.History.{History, Outcome, noted};
 ghost use Rattle.inbox.specs.Judging.{first_mark};
 ghost use Rattle.server_rules.specs.Server.{Reply, kept_replies, marks_of, reply_to};
 ghost use Rattle.server_rules.specs.Speaking.{answers, made_room, without_oldest, auth_key_perm_empty, jobs_full, encrypted_message_invalid, msg_wait_failed, msg_wait_timeout};
-ghost use Rattle.inbox.specs.Kinds.{constructor_of};
+ghost use Rattle.service_tl.specs.Results.{constructor_of};
 ghost use Rattle.waits.specs.Limits.{most_jobs};
 ghost use Rattle.waits.specs.declared.job.Job.{Job};
 ghost use Rattle.waits.specs.Jobs.{job_count};

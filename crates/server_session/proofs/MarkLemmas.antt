@@ -6,7 +6,8 @@ use Rattle.id_window.specs.declared.mark.Mark.{Mark}
 use Rattle.id_window.specs.declared.mark.Mark.TheVariants.{Noticed, Service, Container, Waiting, Replied, Acked, Dropped}
 use Rattle.id_window.specs.Marks.{mark_of}
 use Rattle.id_window.specs.History.{History, Outcome, Refused, AcceptedContainer, AcceptedCall, AcceptedOther}
-use Rattle.server_rules.specs.Server.{Fate, IsKept, WasAcked, WasDropped, Reply, Session, answered_mark, is_fate_kept, is_good, is_kept, mark_after, mark_by, mark_in, marks_of, reply_to}
+use Rattle.server_rules.specs.Server.{Fate, IsKept, WasAcked, WasDropped, Reply, Session, answered_mark, is_fate_kept, is_kept, mark_after, mark_by, mark_in, marks_of, reply_to}
+use Rattle.service_tl.specs.Results.{is_good}
 use Rattle.server_session.specs.Fates.{kept_to}
 use Rattle.server_session.proofs.Turning.{found-is, from_mark}
 

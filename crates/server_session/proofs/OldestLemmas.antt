@@ -12,7 +12,8 @@ use Rattle.id_window.specs.declared.mark.Mark.TheVariants.{Service, Waiting, Rep
 use Rattle.id_window.specs.Marks.{Marks}
 use Rattle.id_window.specs.History.{History, Outcome, Refused, AcceptedContainer, AcceptedCall, AcceptedOther}
 use Rattle.outbox.specs.Replies.{call_of, fits}
-use Rattle.server_rules.specs.Server.{Fate, IsKept, WasAcked, WasDropped, Reply, answered_mark, is_fate_kept, is_good, is_kept, kept_of, kept_replies, mark_after, mark_by, marks_of, reply_to}
+use Rattle.server_rules.specs.Server.{Fate, IsKept, WasAcked, WasDropped, Reply, answered_mark, is_fate_kept, is_kept, kept_of, kept_replies, mark_after, mark_by, marks_of, reply_to}
+use Rattle.service_tl.specs.Results.{is_good}
 use Rattle.server_rules.specs.Speaking.{dropped, made_room, without_oldest}
 use Rattle.law_server.specs.Order.{IsUnanswered}
 use Rattle.server_session.specs.Marking.{dropped_mark, replied_mark, turned}

@@ -1,23 +1,24 @@
 -- Kept replies that weren't said, where further messages are owed.
-use Rattle.std.proofs.Common.{◌≡◌, ◌∙◌, ◌≤◌, ◌<◌, ◌+◌, ℕ, eqb, cond, Bool, true, false, Option, Some, None, List, [], ◌∷◌, ◌++◌, drop, fold, get_or, length, take, ap, sym, subst, refl, arith, inl, inr}
-use Rattle.std.specs.Prelude.{is_some, option_map, sum_by}
+use Rattle.std.proofs.Common.{◌≡◌, ◌∙◌, ◌≤◌, ◌<◌, ◌+◌, ℕ, zero, suc, eqb, cond, Bool, true, false, Option, Some, None, List, [], ◌∷◌, ◌++◌, drop, fold, get_or, length, take, ap, sym, subst, refl, arith, inl, inr}
+use Rattle.std.specs.Prelude.{◌||◌, is_some, option_map, sum_by}
 use Rattle.std.specs.List.{find, list_all}
 use Rattle.std.proofs.lemmas.List.{take_more}
 use Rattle.std.proofs.lemmas.Grind.{fold-append}
-use Rattle.std.proofs.lemmas.Bool.{cases_Bool, cond-true, cond-false, eq-eqb, or_left, or_right}
+use Rattle.std.proofs.lemmas.Bool.{cases_Bool, cond-true, cond-false, eq-eqb, eqb-true, or_left, or_right}
 use Rattle.std.proofs.lemmas.Option.{none-some, same_Some}
 use Rattle.std.proofs.lemmas.List.Folds.{list_any-append}
 use Rattle.std.proofs.lemmas.List.Sums.{sum_by-append, sum_by-cons}
 use Rattle.service_tl.specs.declared.lists.Message.{Message}
 use Rattle.outbox.specs.declared.kept.Kept.{Kept}
-use Rattle.outbox.specs.Replies.{Contents, Replies, by_number, bytes_of, fits, with_room_for, without_number}
+use Rattle.outbox.specs.Replies.{Contents, EachOnce, Replies, by_number, bytes_of, fits, with_room_for, without_number}
 use Rattle.server_output.specs.Dues.{Dues, has_number}
 use Rattle.server_rules.specs.Event.{Speaker}
 use Rattle.server_rules.specs.Rows.{kept_numbered, says_reply}
 use Rattle.server_rules.specs.Server.{Reply, kept_of, kept_replies}
 use Rattle.server_session.proofs.FateLemmas.{found-kept}
+use Rattle.server_session.specs.declared.calling.Called.{Called}
 use Rattle.server_session.specs.declared.session.SessionState.{SessionState}
-use Rattle.server_session.specs.Unsaid.{FewerKept, NoMoreUnsaid, StaySaid, unsaid_weight}
+use Rattle.server_session.specs.Unsaid.{CallsFor, FewerKept, IsCalled, NoMoreUnsaid, PassesOnce, StaySaid, called_weight, is_among, unsaid_bytes, unsaid_count, unsaid_weight}
 
 abbrev one_weight : (Kept → ℕ) → List Message → Kept → ℕ
 one_weight weight messages kept = cond (has_number kept.number messages) 0 (weight kept)
@@ -134,6 +135,67 @@ all-kept kept replies (number ∷ numbers) same =
     ∙ some-mapped kept_of (kept_numbered replies number) in
     rw (first, all-kept kept replies numbers same) refl
 
+-- ---- replies that are called for
+
+-- one that is called for weighs what it weighs, and else nothing
+pub weighs-called : (called : Kept → Bool) (weight : Kept → ℕ) (kept : Kept) → called kept ≡ true → called_weight called weight kept ≡ weight kept
+weighs-called called weight kept is = cond-true (called kept) (weight kept) 0 is
+
+weighs-less : (called more : Kept → Bool) (weight : Kept → ℕ) (kept : Kept) → CallsFor called more → called_weight called weight kept ≤ called_weight more weight kept
+weighs-less called more weight kept calls =
+    elim (cases_Bool (called kept)) [
+      | inl is ↦
+          let one = weighs-called called weight kept is in
+          let other = weighs-called more weight kept (calls kept is) in
+          omega arith
+      | inr none ↦ let nothing : called_weight called weight kept ≡ 0 = cond-false (called kept) (weight kept) 0 none in omega arith
+    ]
+
+pub sums-less : (called more : Kept → Bool) (weight : Kept → ℕ) (replies : Replies) → CallsFor called more
+    → sum_by (called_weight called weight) replies ≤ sum_by (called_weight more weight) replies
+sums-less called more weight [] calls = omega arith
+sums-less called more weight (kept ∷ replies) calls =
+    omega (
+      arith,
+      weighs-less called more weight kept calls,
+      sums-less called more weight replies calls,
+      sum_by-cons (called_weight called weight) kept replies,
+      sum_by-cons (called_weight more weight) kept replies,
+    )
+
+pub unsaid-less : (called more : Kept → Bool) (weight : Kept → ℕ) (messages : List Message) (replies : Replies) → CallsFor called more
+    → unsaid_weight (called_weight called weight) messages replies ≤ unsaid_weight (called_weight more weight) messages replies
+unsaid-less called more weight messages [] calls = omega arith
+unsaid-less called more weight messages (kept ∷ replies) calls =
+    let one = sum_by-cons (one_weight (called_weight called weight) messages) kept replies in
+    let other = sum_by-cons (one_weight (called_weight more weight) messages) kept replies in
+    let rest = unsaid-less called more weight messages replies calls in
+    let less = weighs-less called more weight kept calls in
+    elim (cases_Bool (has_number kept.number messages)) [
+      | inl said ↦
+          let none : one_weight (called_weight called weight) messages kept ≡ 0 = cond-true _ 0 (called_weight called weight kept) said in
+          omega arith
+      | inr unsaid ↦
+          let all : one_weight (called_weight called weight) messages kept ≡ called_weight called weight kept = cond-false _ 0 (called_weight called weight kept) unsaid in
+          let more_all : one_weight (called_weight more weight) messages kept ≡ called_weight more weight kept = cond-false _ 0 (called_weight more weight kept) unsaid in
+          omega arith
+    ]
+
+-- what is found passes
+pub passes-found : (test : Kept → Bool) (replies : Replies) (kept : Kept) → find test replies ≡ Some kept → test kept ≡ true
+passes-found test [] kept found = absurd (none-some kept found)
+passes-found test (first ∷ replies) kept found =
+    elim (cases_Bool (test first)) [
+      | inl here ↦ ap test (sym (same_Some first kept (sym (cond-true _ (Some first) (find test replies) here) ∙ found))) ∙ here
+      | inr later ↦ passes-found test replies kept (sym (cond-false _ (Some first) (find test replies) later) ∙ found)
+    ]
+
+-- the one of a number is among those of many
+pub one-among : (numbers : List ℕ) (place : ℕ) → place < length numbers → CallsFor (λ kept. eqb kept.number (get_or numbers place 0)) (is_among numbers)
+one-among [] place within kept is = absurd (omega arith)
+one-among (number ∷ numbers) zero within kept is = or_left (eqb kept.number number) (is_among numbers kept) is
+one-among (number ∷ numbers) (suc place) within kept is = or_right (eqb kept.number number) (is_among numbers kept) (one-among numbers place (omega arith) kept is)
+
 -- ---- at most all kept replies are left to be said
 
 all-unsaid : (weight : Kept → ℕ) (messages : List Message) (replies : Replies) → unsaid_weight weight messages replies ≤ sum_by weight replies
@@ -149,11 +211,20 @@ counted : (replies : Replies) → sum_by (λ (kept : Kept). 1) replies ≡ lengt
 counted [] = refl
 counted (kept ∷ replies) = omega (arith, sum_by-cons (λ (one : Kept). 1) kept replies, counted replies)
 
-pub unsaid-few : (messages : List Message) (replies : Replies) → unsaid_weight (λ kept. 1) messages replies ≤ length replies
-unsaid-few messages replies = omega (arith, all-unsaid (λ kept. 1) messages replies, counted replies)
+called-few : (called : Kept → Bool) (weight : Kept → ℕ) (replies : Replies) → sum_by (called_weight called weight) replies ≤ sum_by weight replies
+called-few called weight replies = sums-less called (λ kept. true) weight replies (λ kept is. refl)
 
-pub unsaid-short : (messages : List Message) (replies : Replies) → unsaid_weight (λ kept. length kept.body) messages replies ≤ bytes_of replies
-unsaid-short messages replies = all-unsaid (λ kept. length kept.body) messages replies
+pub count-few : (called : Kept → Bool) (replies : Replies) → sum_by (called_weight called (λ kept. 1)) replies ≤ length replies
+count-few called replies = omega (arith, called-few called (λ kept. 1) replies, counted replies)
+
+pub bytes-few : (called : Kept → Bool) (replies : Replies) → sum_by (called_weight called (λ kept. length kept.body)) replies ≤ bytes_of replies
+bytes-few called replies = called-few called (λ kept. length kept.body) replies
+
+pub unsaid-few : (called : Kept → Bool) (messages : List Message) (replies : Replies) → unsaid_weight (called_weight called (λ kept. 1)) messages replies ≤ length replies
+unsaid-few called messages replies = omega (arith, all-unsaid (called_weight called (λ kept. 1)) messages replies, count-few called replies)
+
+pub unsaid-short : (called : Kept → Bool) (messages : List Message) (replies : Replies) → unsaid_weight (called_weight called (λ kept. length kept.body)) messages replies ≤ bytes_of replies
+unsaid-short called messages replies = omega (arith, all-unsaid (called_weight called (λ kept. length kept.body)) messages replies, bytes-few called replies)
 
 -- ---- no more is left to be said
 
@@ -166,10 +237,10 @@ none-more standing after owing left same stays =
     let weighs : (weight : Kept → ℕ) → unsaid_weight weight left.messages after.outbox.replies ≤ unsaid_weight weight owing.messages standing.outbox.replies =
     λ weight. subst (λ (outbox : Contents). unsaid_weight weight left.messages outbox.replies ≤ unsaid_weight weight owing.messages standing.outbox.replies) (sym same)
     (unsaid-fewer weight owing.messages left.messages standing.outbox.replies stays) in
-    record { count = weighs (λ kept. 1); bytes = weighs (λ kept. length kept.body) }
+    record { count = λ called. weighs (called_weight called (λ kept. 1)); bytes = λ called. weighs (called_weight called (λ kept. length kept.body)) }
 
 pub no-more-kept : (standing after : SessionState) (owing : Dues) → FewerKept standing after → NoMoreUnsaid standing owing after owing
-no-more-kept standing after owing fewer = record { count = fewer (λ kept. 1) owing.messages; bytes = fewer (λ kept. length kept.body) owing.messages }
+no-more-kept standing after owing fewer = record { count = λ called. fewer (called_weight called (λ kept. 1)) owing.messages; bytes = λ called. fewer (called_weight called (λ kept. length kept.body)) owing.messages }
 
 -- of some replies some stay
 abbrev FewerReplies : Replies → Replies → Type 0
@@ -243,4 +314,100 @@ none-more-answered standing told roomy after owing left kept same stays said few
     let room = fewer weight left.messages in
     let told = unsaid-fewer weight owing.messages left.messages standing.outbox.replies stays in
     omega arith in
-    record { count = weighs (λ kept. 1); bytes = weighs (λ kept. length kept.body) }
+    record { count = λ called. weighs (called_weight called (λ kept. 1)); bytes = λ called. weighs (called_weight called (λ kept. length kept.body)) }
+
+-- ---- how many are called for at most
+
+one-more : (test which : Kept → Bool) (weight : Kept → ℕ) (kept : Kept)
+    → called_weight (λ one. test one || which one) weight kept ≤ called_weight test weight kept + called_weight which weight kept
+one-more test which weight kept =
+    elim (cases_Bool (test kept)) [
+      | inl is ↦
+          let all : called_weight (λ one. test one || which one) weight kept ≡ weight kept = weighs-called (λ one. test one || which one) weight kept (or_left (test kept) (which kept) is) in
+          let own = weighs-called test weight kept is in
+          omega arith
+      | inr other ↦
+          let same : called_weight (λ one. test one || which one) weight kept ≡ called_weight which weight kept = ap (λ (so : Bool). cond (so || which kept) (weight kept) 0) other in
+          omega arith
+    ]
+
+sums-more : (test which : Kept → Bool) (weight : Kept → ℕ) (replies : Replies)
+    → sum_by (called_weight (λ one. test one || which one) weight) replies ≤ sum_by (called_weight test weight) replies + sum_by (called_weight which weight) replies
+sums-more test which weight [] = omega arith
+sums-more test which weight (kept ∷ replies) =
+    omega (
+      arith,
+      one-more test which weight kept,
+      sums-more test which weight replies,
+      sum_by-cons (called_weight (λ one. test one || which one) weight) kept replies,
+      sum_by-cons (called_weight test weight) kept replies,
+      sum_by-cons (called_weight which weight) kept replies,
+    )
+
+-- where none passes nothing is called for
+sum-none : (test : Kept → Bool) (weight : Kept → ℕ) (replies : Replies) → find test replies ≡ None → sum_by (called_weight test weight) replies ≡ 0
+sum-none test weight [] none = refl
+sum-none test weight (kept ∷ replies) none =
+    elim (cases_Bool (test kept)) [
+      | inl is ↦ absurd (none-some kept (sym none ∙ cond-true (test kept) (Some kept) (find test replies) is))
+      | inr fails ↦
+          let rest = sum-none test weight replies (sym (cond-false (test kept) (Some kept) (find test replies) fails) ∙ none) in
+          let nothing : called_weight test weight kept ≡ 0 = cond-false (test kept) (weight kept) 0 fails in
+          omega (arith, sum_by-cons (called_weight test weight) kept replies)
+    ]
+
+-- where one passes at most, it is what is found
+sum-one : (test : Kept → Bool) (weight : Kept → ℕ) (replies : Replies) (kept : Kept) → PassesOnce test replies → find test replies ≡ Some kept
+    → sum_by (called_weight test weight) replies ≤ weight kept
+sum-one test weight [] kept once found = absurd (none-some kept found)
+sum-one test weight (first ∷ replies) kept once found =
+    let all = sum_by-cons (called_weight test weight) first replies in
+    elim (cases_Bool (test first)) [
+      | inl here ↦
+          let same : first ≡ kept = same_Some first kept (sym (cond-true _ (Some first) (find test replies) here) ∙ found) in
+          let weighs : weight first ≡ weight kept = ap weight same in
+          let own = weighs-called test weight first here in
+          let rest = sum-none test weight replies (once.0 here) in
+          omega arith
+      | inr later ↦
+          let rest = sum-one test weight replies kept once.1 (sym (cond-false _ (Some first) (find test replies) later) ∙ found) in
+          let nothing : called_weight test weight first ≡ 0 = cond-false (test first) (weight first) 0 later in
+          omega arith
+    ]
+
+-- what is found is called for too
+pub called-found : (test which : Kept → Bool) (weight : Kept → ℕ) (replies : Replies) (kept : Kept) (most : ℕ) → PassesOnce test replies → find test replies ≡ Some kept
+    → sum_by (called_weight which weight) replies ≤ most → sum_by (called_weight (λ one. test one || which one) weight) replies ≤ most + weight kept
+called-found test which weight replies kept most once found is = omega (arith, is, sums-more test which weight replies, sum-one test weight replies kept once found)
+
+pub called-none : (test which : Kept → Bool) (weight : Kept → ℕ) (replies : Replies) (most : ℕ) → find test replies ≡ None
+    → sum_by (called_weight which weight) replies ≤ most → sum_by (called_weight (λ one. test one || which one) weight) replies ≤ most
+called-none test which weight replies most none is = omega (arith, is, sums-more test which weight replies, sum-none test weight replies none)
+
+-- each key stands once, so what is looked for by one passes once
+pub once-by-key : (key : Kept → ℕ) (n : ℕ) (replies : Replies) → EachOnce key replies → PassesOnce (λ kept. eqb (key kept) n) replies
+once-by-key key n [] once = tt
+once-by-key key n (kept ∷ replies) once = (
+  λ is. subst (λ (number : ℕ). find (λ (other : Kept). eqb (key other) number) replies ≡ None) (eqb-true (key kept) n is) once.0,
+  once-by-key key n replies once.1,
+)
+
+-- fewer are called for
+pub fewer-called : (called more : Kept → Bool) (standing : SessionState) (most : Called) → CallsFor called more → IsCalled more standing most → IsCalled called standing most
+fewer-called called more standing most calls is =
+    let replies = standing.outbox.replies in
+    record {
+      count = omega (arith, is.count, sums-less called more (λ kept. 1) replies calls);
+      bytes = omega (arith, is.bytes, sums-less called more (λ kept. length kept.body) replies calls);
+      few = is.few;
+      short = is.short;
+    }
+
+-- what of them wasn't said is no more than they are
+pub unsaid-called : (called : Kept → Bool) (standing : SessionState) (owing : Dues) (most : Called) → IsCalled called standing most
+    → (unsaid_count called standing owing ≤ most.count) × (unsaid_bytes called standing owing ≤ most.bytes)
+unsaid-called called standing owing most is =
+    let replies = standing.outbox.replies in (
+      omega (arith, is.count, all-unsaid (called_weight called (λ kept. 1)) owing.messages replies),
+      omega (arith, is.bytes, all-unsaid (called_weight called (λ kept. length kept.body)) owing.messages replies),
+    )

@@ -4,6 +4,7 @@
 //! `reserve` take memory.
 #![tactic(auto)]
 
+mod calling;
 mod contents;
 mod dropping;
 pub mod laws;
@@ -16,7 +17,7 @@ mod resending;
 mod session;
 mod telling;
 
-pub use contents::is_good;
+pub use calling::Called;
 pub use dropping::DroppedReply;
 pub use outlook::Outlook;
 pub use session::SessionState;

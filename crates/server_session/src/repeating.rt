@@ -1,7 +1,8 @@
 //! A session says once more what it keeps (core.telegram.org/mtproto/service_messages, "Response to an RPC query").
 
-ghost use Rattle.std.specs.Prelude.{◌≡◌, ◌≤◌, ◌+◌, ℕ, slice_get};
+ghost use Rattle.std.specs.Prelude.{◌≡◌, ◌≤◌, ◌+◌, ℕ, Bool, slice_get};
 ghost use Rattle.std.specs.Option.{option_copied};
+ghost use Rattle.outbox.specs.declared.kept.Kept.{Kept as Reply};
 ghost use Rattle.outbox.specs.Replies.{kept_bytes_max, kept_replies_max};
 ghost use Rattle.server_output.specs.Dues.{Dues};
 ghost use Rattle.server_rules.specs.Event.{Speaker};
@@ -21,7 +22,7 @@ impl SessionState {
     /// How many replies it keeps, at most 4,096.
     pub fn kept_count(&self) -> usize
         ensures value { result ≡ kept_count self.now }
-        ensures unsaid { (owing : Dues) → unsaid_count self.now owing ≤ result }
+        ensures unsaid { (called : Reply → Bool) (owing : Dues) → unsaid_count called self.now owing ≤ result }
         ensures few { result ≤ kept_replies_max }
     {
         self.outbox.len()
@@ -30,7 +31,7 @@ impl SessionState {
     /// How many bytes the bodies of these have together, at most 4,194,304.
     pub fn kept_bytes(&self) -> usize
         ensures value { result ≡ kept_bytes self.now }
-        ensures unsaid { (owing : Dues) → unsaid_bytes self.now owing ≤ result }
+        ensures unsaid { (called : Reply → Bool) (owing : Dues) → unsaid_bytes called self.now owing ≤ result }
         ensures few { result ≤ kept_bytes_max }
     {
         self.outbox.bytes()

@@ -7,6 +7,7 @@ ghost use Rattle.id_window.specs.declared.mark.Mark.TheVariants.{Replied};
 ghost use Rattle.service_tl.specs.declared.item.Item.TheVariants.{RpcResult};
 ghost use Rattle.service_tl.specs.Items.{spelling_of};
 ghost use Rattle.packing.specs.Numbering.{numbered};
+ghost use Rattle.outbox.specs.declared.kept.Kept.{Kept as One};
 ghost use Rattle.outbox.specs.Bodies.{head_bytes};
 ghost use Rattle.outbox.specs.Replies.{by_call, fits, kept_bytes_max};
 ghost use Rattle.server_rules.specs.Event.{Speaker};
@@ -19,7 +20,7 @@ ghost use Rattle.server_output.specs.Items.{IsContent, result_bytes};
 ghost use Rattle.server_session.specs.Fates.{kept_to};
 ghost use Rattle.server_session.specs.Kept.{IsResult};
 
-use crate::contents::{is_good, result_head};
+use crate::contents::result_head;
 use crate::laws::replies_are_results;
 use crate::marking::{mark_dropped, mark_replied};
 use crate::session::SessionState;
@@ -28,11 +29,12 @@ use msg_ids::Moment;
 use outbox::{Body, Bytes, Kept};
 use server_output::OutgoingMessages;
 use server_rules::laws::oldest_replies_are_dropped;
+use service_tl::is_good;
 
 impl SessionState {
     ghost use Rattle.server_session.specs.SessionState.{IsAt, Stands, key_of, number_of, numbers_left, outbox_of, replies_left, reply_bytes};
     ghost use Rattle.server_session.specs.Says.{Keys, Says, setting_of};
-    ghost use Rattle.server_session.specs.Unsaid.{FewerKept, NoMoreUnsaid, StaySaid, unsaid_bytes, unsaid_count};
+    ghost use Rattle.server_session.specs.Unsaid.{CallsFor, FewerKept, NoMoreUnsaid, StaySaid, is_to, unsaid_bytes, unsaid_count};
 
     // Says the result of a call. Its number and its seq.
     fn owes_result<D: Draw>(
@@ -205,12 +207,12 @@ impl SessionState {
 
     /// Says the kept reply to a call once more, unless it was said in this event, or none is kept.
     pub fn says_kept<D: Draw>(&self, owing: &mut OutgoingMessages, call: u64)
-        requires places { unsaid_count self.now owing.old ≤ owing.old.places }
-        requires bytes { unsaid_bytes self.now owing.old ≤ owing.old.room }
+        requires places { unsaid_count (is_to call) self.now owing.old ≤ owing.old.places }
+        requires bytes { unsaid_bytes (is_to call) self.now owing.old ≤ owing.old.room }
         ensures says { (now : ℕ) (draw : D) (good : Bool) (speaker : Speaker D) → mark_in speaker.session call ≡ Some (Replied good)
             → Says now self.now owing.old draw speaker → Says now self.now owing.new draw (says_reply (reply_to call speaker.session.replies) speaker) }
-        ensures places { owing.old.places + unsaid_count self.now owing.new ≤ owing.new.places + unsaid_count self.now owing.old }
-        ensures left { owing.old.room + unsaid_bytes self.now owing.new ≤ owing.new.room + unsaid_bytes self.now owing.old }
+        ensures places { (called : One → Bool) → CallsFor (is_to call) called → owing.old.places + unsaid_count called self.now owing.new ≤ owing.new.places + unsaid_count called self.now owing.old }
+        ensures left { (called : One → Bool) → CallsFor (is_to call) called → owing.old.room + unsaid_bytes called self.now owing.new ≤ owing.new.room + unsaid_bytes called self.now owing.old }
         ensures taken { (owing.new.places_taken ≡ owing.old.places_taken) × (owing.new.bytes_taken ≡ owing.old.bytes_taken) }
     {
         if let Some(kept) = self.kept_to(call) {

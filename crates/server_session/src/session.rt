@@ -38,12 +38,9 @@ use outbox::{Kept, Outbox};
 use salt_line::{SaltLine, SaltRow};
 use server_output::laws::sent_as_the_rules_say;
 use server_output::{Header, OutgoingMessages, Outs, Packets};
+use service_tl::codes::WRONG_SALT;
 use std::alloc::Global;
 use waits::Jobs;
-
-/// The code of the notice that a message's salt is wrong
-/// (core.telegram.org/mtproto/service_messages_about_messages, "Notice of Ignored Error Message").
-const WRONG_SALT: u32 = 48;
 
 /// How many rows of salts are told at once.
 const SALT_ROWS_MAX: usize = 64;

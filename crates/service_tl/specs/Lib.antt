@@ -1,8 +1,10 @@
 pub mod Sizes
 pub mod Fields
 pub mod Schema
+pub mod Codes
 pub mod Items
 pub mod ItemOf
+pub mod Results
 pub mod Words
 pub mod Exact
 pub mod Parts

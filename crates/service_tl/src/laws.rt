@@ -8,10 +8,12 @@ ghost use Rattle.service_tl.specs.declared.item.Item.{Item};
 ghost use Rattle.service_tl.specs.declared.item.Item.TheVariants.{Packed, Call};
 ghost use Rattle.service_tl.specs.Items.{spelling_of, ItemFits, IsWritable, IsOfSchema};
 ghost use Rattle.service_tl.specs.Schema.{schema, service_numbers, gzip_packed};
+ghost use Rattle.service_tl.specs.Codes.{container_code, number_codes, salt_code, seq_codes};
 ghost use Rattle.service_tl.specs.ItemOf.{item_of};
 ghost use Rattle.service_tl.specs.Words.{IsWords, ItemIsWords};
 ghost use Rattle.service_tl.specs.Exact.{behind, IsRead, IsBroken};
 
+use crate::codes::*;
 use crate::numbers::*;
 use tl_codec::laws::{exact_reading, sizes_of_spellings, written_again};
 
@@ -25,6 +27,14 @@ pub fn numbers_are_the_standards()
         ∷ MSG_CONTAINER ∷ MSGS_ACK ∷ MSGS_STATE_REQ ∷ MSGS_STATE_INFO ∷ MSGS_ALL_INFO ∷ MSG_RESEND_REQ
         ∷ MSG_DETAILED_INFO ∷ MSG_NEW_DETAILED_INFO ∷ BAD_MSG_NOTIFICATION ∷ BAD_SERVER_SALT
         ∷ INVOKE_AFTER_MSG ∷ INVOKE_AFTER_MSGS ∷ AUTH_BIND_TEMP_AUTH_KEY ∷ GZIP_PACKED ∷ [] }
+{}
+
+/// The codes of this crate are the standard's.
+pub fn codes_are_the_standards()
+    ensures numbers { number_codes ≡ NUMBER_TOO_LOW ∷ NUMBER_TOO_HIGH ∷ NUMBER_NOT_FOURFOLD ∷ CONTAINER_NUMBER_TAKEN ∷ FORGOTTEN ∷ [] }
+    ensures seqs { seq_codes ≡ SEQ_TOO_LOW ∷ SEQ_TOO_HIGH ∷ EVEN_SEQ_EXPECTED ∷ ODD_SEQ_EXPECTED ∷ [] }
+    ensures salt { salt_code ≡ WRONG_SALT }
+    ensures container { container_code ≡ INVALID_CONTAINER }
 {}
 
 /// What was written of an item is that item again.

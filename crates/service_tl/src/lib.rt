@@ -3,6 +3,7 @@
 //! says, an item is written as `spelling_of` says, and what was written is read again.
 #![tactic(auto)]
 
+pub mod codes;
 mod fields;
 mod item;
 pub mod laws;
@@ -11,6 +12,7 @@ mod numbers;
 mod parsing;
 mod parts;
 mod reading;
+mod results;
 mod writing;
 
 pub use item::Item;
@@ -24,4 +26,5 @@ pub use numbers::{
     RPC_ANSWER_UNKNOWN, RPC_DROP_ANSWER, RPC_ERROR, RPC_RESULT,
 };
 pub use parsing::{is_service, parse};
+pub use results::{constructor_of, is_good};
 pub use writing::write;

@@ -15,8 +15,8 @@ use Rattle.server_rules.specs.Server.{Server}
 use Rattle.sess_journal.specs.Back.{ComesBack, HoldsBytes, HoldsSome, MayHold, MayLeaveIn, Returns, ReturnsAfter}
 use Rattle.sess_journal.specs.Keeping.{Adds, KeepsFor, LeavesSome, Opened, Resumed, Seen, disk_by, disk_in, ending}
 use Rattle.sess_journal.specs.Opening.{MayBecome, Resumes}
-use Rattle.sess_replay.specs.Files.{IsNoJournalAt}
-use Rattle.sess_replay.specs.Replay.{Bases, Basis, Reached, Replays, at_first}
+use Rattle.sess_journal.specs.Files.{IsNoJournalAt}
+use Rattle.sess_journal.specs.Replay.{Bases, Basis, Reached, Replays, at_first}
 use Rattle.sess_journal.proofs.ResumeLemmas.{append_none}
 
 -- a file spells one list, and lawful records aren't refused

@@ -31,7 +31,7 @@ use Rattle.server_rules.specs.Server.{Name, Server}
 use Rattle.server_session.specs.Says.{Keys}
 use Rattle.law_server_replay.specs.Quiet.{quiet}
 use Rattle.sess_journal.specs.Keeping.{Added, Adds, Book, GivesNothing, HasRecorded, IsRecorded, Journals, KeepsFor, LeavesSome, Seen, disk_by, disk_in, entry_at}
-use Rattle.sess_replay.specs.Replay.{Bases, Basis, LeadsTo, Plays, Reached, Replays, after_interruption, after_reply, always, at_first, reached_by, run_interrupted, setting_at}
+use Rattle.sess_journal.specs.Replay.{Bases, Basis, LeadsTo, Plays, Reached, Replays, after_interruption, after_reply, always, at_first, reached_by, run_interrupted, setting_at}
 use Rattle.sess_journal.proofs.NextLemmas.{replays_more}
 use Rattle.sess_journal.specs.Staging.{RowLaws, Stage}
 use Rattle.sess_journal.proofs.PlayLemmas.{IsSeeded, seeded}

@@ -20,7 +20,7 @@ use Rattle.waits.specs.declared.job.Job.{Job}
 use Rattle.waits.specs.Jobs.{ready_job}
 use Rattle.sess_journal.specs.Keeping.{Seen, reply_at, reply_by}
 use Rattle.sess_journal.specs.Staging.{Stage}
-use Rattle.sess_replay.specs.Replay.{Bases, after_reply, always}
+use Rattle.sess_journal.specs.Replay.{Bases, after_reply, always}
 use Rattle.sess_journal.proofs.DeskLemmas.{Occurs, basis, same_event, time_early, time_of}
 use Rattle.sess_journal.proofs.PlayLemmas.{run_now}
 

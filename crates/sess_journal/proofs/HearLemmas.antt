@@ -25,7 +25,7 @@ use Rattle.server_session.specs.Says.{Keys}
 use Rattle.server_session.specs.SessionState.{Stands as SessionStands}
 use Rattle.sess_journal.specs.Staging.{Stage}
 use Rattle.sess_journal.specs.Keeping.{ByHeard, Journals, KeepsFor, Seen, entry_at}
-use Rattle.sess_replay.specs.Replay.{Bases}
+use Rattle.sess_journal.specs.Replay.{Bases}
 use Rattle.sess_journal.proofs.DeskLemmas.{keeps_quiet, time_early}
 
 abbrev pub Later : Type 0

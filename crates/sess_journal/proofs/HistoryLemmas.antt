@@ -17,8 +17,8 @@ use Rattle.sess_journal.specs.Back.{MayLeaveIn}
 use Rattle.sess_journal.specs.Histories.{Calls, Comes, CrashesIn, Happens, IsOpenedAs, Opens, Stops, StopsOpening, StopsWork, Works}
 use Rattle.sess_journal.specs.Keeping.{KeepsFor, LeavesSome, Seen, disk_by, disk_in, ending, ending_by}
 use Rattle.sess_journal.specs.Opening.{IsLawfulFile, MayBecome, Resumes}
-use Rattle.sess_replay.specs.Files.{IsNoJournalAt}
-use Rattle.sess_replay.specs.Replay.{Bases, Basis, LeadsTo, Reached, Replays, after_interruption, at_first, reached_by, setting_at}
+use Rattle.sess_journal.specs.Files.{IsNoJournalAt}
+use Rattle.sess_journal.specs.Replay.{Bases, Basis, LeadsTo, Reached, Replays, after_interruption, at_first, reached_by, setting_at}
 use Rattle.sess_journal.proofs.BackLemmas.{AfterSync, AtOnce, FileLaws, some_is}
 use Rattle.sess_journal.proofs.NextLemmas.{whole}
 

@@ -1,3 +1,4 @@
+pub mod ReplayLemmas
 mod BackLemmas
 mod DeskLemmas
 mod EventLemmas

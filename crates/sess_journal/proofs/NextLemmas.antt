@@ -5,11 +5,11 @@ use Rattle.disks.specs.Told.{DiskTold}
 use Rattle.sess_records.specs.declared.records.Record.{Record}
 use Rattle.sess_records.specs.Format.{IsFault, Reached as Read, open_gate, written}
 use Rattle.sess_records.specs.Standing.{Behind}
-use Rattle.sess_replay.specs.Files.{IsNoJournalAt}
+use Rattle.sess_journal.specs.Files.{IsNoJournalAt}
 use Rattle.sess_records.specs.Seen.{Reading}
 use Rattle.sess_records.specs.Standing.{HasTaken}
 use Rattle.sess_journal.specs.Playing.{Follows, Player, StandsAt, basis_for}
-use Rattle.sess_replay.specs.Replay.{Bases, Basis, IsLawful, Plays, Reached, Replays, at_first}
+use Rattle.sess_journal.specs.Replay.{Bases, Basis, IsLawful, Plays, Reached, Replays, at_first}
 
 some_map : {X : Type 0} {P Q : X → Type 0} → (o : Option X) → ((x : X) → P x → Q x) → IfSome o P → IfSome o Q
 some_map None f h = tt

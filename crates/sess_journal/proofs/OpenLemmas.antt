@@ -13,8 +13,8 @@ use Rattle.sess_records.specs.Standing.{Behind, HasNext, SpellsOneOf}
 use Rattle.sess_journal.specs.Keeping.{ending}
 use Rattle.sess_journal.specs.Opening.{IsKeptAfter, IsLawfulFile, MayBecome}
 use Rattle.sess_journal.specs.Playing.{Follows, Player}
-use Rattle.sess_replay.specs.Files.{IsNoJournalAt}
-use Rattle.sess_replay.specs.Replay.{Bases, Basis, Reached, Replays, at_first}
+use Rattle.sess_journal.specs.Files.{IsNoJournalAt}
+use Rattle.sess_journal.specs.Replay.{Bases, Basis, Reached, Replays, at_first}
 use Rattle.sess_journal.proofs.NextLemmas.{no_header}
 use Rattle.sess_journal.proofs.ResumeLemmas.{append_none, spells_by}
 

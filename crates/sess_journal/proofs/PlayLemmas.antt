@@ -26,7 +26,7 @@ use Rattle.waits.specs.declared.job.Job.{Job}
 use Rattle.waits.specs.Jobs.{ready_job}
 use Rattle.sess_journal.specs.Staging.{Goes, Places}
 use Rattle.sess_journal.specs.Playing.{Leads, Player, StandsAt, basis_for}
-use Rattle.sess_replay.specs.Replay.{Bases, Basis, IsLawful, LeadsTo, Plays, Reached, after_interruption, after_reply, always, reached_by, run_interrupted, setting_at}
+use Rattle.sess_journal.specs.Replay.{Bases, Basis, IsLawful, LeadsTo, Plays, Reached, after_interruption, after_reply, always, reached_by, run_interrupted, setting_at}
 
 -- a draw some words later stands at its own place
 pub record IsSeeded {D : Type 0} (basis : Basis D) (draw : D) : Type 0 where

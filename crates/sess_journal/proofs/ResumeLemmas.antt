@@ -10,7 +10,7 @@ use Rattle.sess_records.specs.Standing.{Behind, Holds}
 use Rattle.server_core.specs.Server.{Kept, Stands}
 use Rattle.sess_journal.specs.Keeping.{Book, KeepsFor, Resumed, Seen, disk_in, ending, ending_by}
 use Rattle.sess_journal.specs.Playing.{Leads, Player, StandsAt, basis_for}
-use Rattle.sess_replay.specs.Replay.{Bases, Reached, Replays, at_first}
+use Rattle.sess_journal.specs.Replay.{Bases, Reached, Replays, at_first}
 use Rattle.sess_journal.proofs.NextLemmas.{replays_more}
 use Rattle.sess_journal.proofs.PlayLemmas.{plays_of}
 

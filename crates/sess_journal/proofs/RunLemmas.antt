@@ -20,7 +20,7 @@ use Rattle.server_session.specs.Says.{Keys}
 use Rattle.waits.specs.declared.job.Job.{Job}
 use Rattle.waits.specs.Jobs.{ready_count}
 use Rattle.sess_journal.specs.Keeping.{Added, Adds, Book, HasBegun, Journals, KeepsFor, LeavesSome, Seen, disk_by, entry_at, reply_by}
-use Rattle.sess_replay.specs.Replay.{Bases, LeadsTo, Reached, Replays, at_first}
+use Rattle.sess_journal.specs.Replay.{Bases, LeadsTo, Reached, Replays, at_first}
 use Rattle.sess_journal.specs.Staging.{Stage}
 use Rattle.sess_journal.proofs.DeskLemmas.{basis, its, plays_at}
 use Rattle.sess_journal.proofs.NextLemmas.{replays_more}

@@ -24,7 +24,7 @@ use Rattle.server_core.specs.Packets.{IsHeardOf}
 use Rattle.server_rules.specs.Answer.{Answer}
 use Rattle.server_rules.specs.Server.{Server}
 use Rattle.sess_journal.specs.Keeping.{Book, ByHeard, HasCounted, IsSameDisk, Journals, KeepsFor, Seen, StandsFor, count_of, disk_by, disk_in, place_by}
-use Rattle.sess_replay.specs.Replay.{Bases}
+use Rattle.sess_journal.specs.Replay.{Bases}
 
 pub ok_map : {A E : Type 0} {P Q : A → Type 0} (r : Result A E) → ((value : A) → P value → Q value) → IfOk r P → IfOk r Q
 ok_map (Ok value) f h = f value h

@@ -6,7 +6,7 @@ use Rattle.sess_records.specs.declared.records.Record.{Record}
 use Rattle.sess_records.specs.Seen.{File}
 use Rattle.sess_records.specs.Standing.{SpellsSome}
 use Rattle.sess_journal.specs.Keeping.{Book, Resumed, Seen, disk_in, ending}
-use Rattle.sess_replay.specs.Replay.{Bases, Reached, Replays, at_first}
+use Rattle.sess_journal.specs.Replay.{Bases, Reached, Replays, at_first}
 
 -- A disk that tells what it holds may hold these bytes: by a crash at any moment of a call, from the one before it to the one
 -- after it, or by the call alone.

@@ -7,7 +7,7 @@ use Rattle.sess_records.specs.Standing.{IsSure}
 use Rattle.sess_journal.specs.Back.{MayLeaveIn}
 use Rattle.sess_journal.specs.Keeping.{Adds, Seen, disk_in}
 use Rattle.sess_journal.specs.Opening.{MayBecome}
-use Rattle.sess_replay.specs.Replay.{Bases}
+use Rattle.sess_journal.specs.Replay.{Bases}
 
 -- a call of a server under this ring
 pub record Calls {K S D : Type 0} (bases : Bases S D) (told : K → Option DiskTold) (seal : S) (one other : K) : Type 0 where

@@ -17,7 +17,7 @@ use Rattle.server_core.specs.declared.effects.Effects.{Effects}
 use Rattle.server_core.specs.Desks.{IsBetweenEvents}
 use Rattle.server_core.specs.Server.{Kept, Stands}
 use Rattle.server_rules.specs.Server.{Server}
-use Rattle.sess_replay.specs.Replay.{Bases, Reached, Replays, at_first}
+use Rattle.sess_journal.specs.Replay.{Bases, Reached, Replays, at_first}
 use Rattle.waits.specs.declared.job.Job.{Job}
 use Rattle.waits.specs.Jobs.{Queue, ready_job}
 

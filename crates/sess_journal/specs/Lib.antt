@@ -1,3 +1,5 @@
+pub mod Replay
+pub mod Files
 pub mod Back
 pub mod Histories
 pub mod Keeping

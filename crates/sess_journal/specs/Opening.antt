@@ -6,7 +6,7 @@ use Rattle.sess_records.specs.declared.records.Record.{Record}
 use Rattle.sess_records.specs.Format.{Spells}
 use Rattle.sess_records.specs.Standing.{SpellsSome}
 use Rattle.sess_journal.specs.Keeping.{Seen, disk_in, ending}
-use Rattle.sess_replay.specs.Replay.{Basis, Reached, Replays, at_first}
+use Rattle.sess_journal.specs.Replay.{Basis, Reached, Replays, at_first}
 
 -- the disk of the server, or the one that came back
 abbrev pub disk_left : {K S D : Type 0} → Result (Seen K S D) (K × JournalFault) → Option K

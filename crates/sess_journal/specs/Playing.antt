@@ -8,7 +8,7 @@ use Rattle.sess_records.specs.Standing.{HasTaken}
 use Rattle.server_core.specs.Desks.{IsBetweenEvents}
 use Rattle.server_core.specs.Server.{Kept, Stands}
 use Rattle.waits.specs.Jobs.{ready_count}
-use Rattle.sess_replay.specs.Replay.{Bases, Basis, LeadsTo, Reached, Replays, at_first}
+use Rattle.sess_journal.specs.Replay.{Bases, Basis, LeadsTo, Reached, Replays, at_first}
 
 -- ---- a server that records are played to
 

@@ -9,7 +9,7 @@ use Rattle.sess_records.specs.Crashes.{LeavesOnly}
 use Rattle.sess_records.specs.Format.{Spells}
 use Rattle.sess_records.specs.Standing.{Settled, SpellsOneOf, SpellsSome}
 use Rattle.server_rules.specs.Server.{Server}
-use Rattle.sess_replay.specs.Replay.{Bases, Basis}
+use Rattle.sess_journal.specs.Replay.{Bases, Basis}
 use Rattle.sess_journal.specs.Keeping.{KeepsFor, Seen}
 
 -- the draws of a seed go through its places

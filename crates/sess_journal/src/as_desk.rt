@@ -15,7 +15,7 @@ ghost use Rattle.server_core.specs.declared.desk.DeskFault.TheVariants as faults
 ghost use Rattle.server_core.specs.Desks.{Counts, Does, DoesNothing};
 ghost use Rattle.server_core.specs.Packets.{IsHeardOf, brought_in, effects_in};
 ghost use Rattle.sess_journal.specs.Keeping.{IfNothingDone, StandsFor, count_of, disk_in, place_by};
-ghost use Rattle.sess_replay.specs.Replay.{bases_of};
+ghost use Rattle.sess_journal.specs.Replay.{bases_of};
 
 use crate::kept::Kept;
 use disks::Disk;

@@ -13,10 +13,9 @@ ghost use Rattle.server_session.specs.Says.{Keys, setting_of};
 ghost use Rattle.server_core.specs.Desks.{Does, DoesNothing};
 ghost use Rattle.server_core.specs.Packets.{IsHeardOf, brought_in, effects_in};
 ghost use Rattle.sess_journal.specs.Keeping.{ByHeard, GivesNothing, HasCounted, IfNothingDone, IsRecorded, IsSameDisk, Journals, KeepsFor, OfDisks, Refuses, entry_at};
-ghost use Rattle.sess_replay.specs.Replay.{bases_of};
+ghost use Rattle.sess_journal.specs.Replay.{bases_of};
 
 use crate::kept::Kept;
-use crate::played::later;
 use crate::recorded::Recorded;
 use crate::staging::{events_begin, is_early};
 use disks::Disk;
@@ -68,7 +67,7 @@ impl<K: Disk + Drop, S: Seal + Drop, D: Seeded + Drop> Kept<K, S, D> {
         is_early(now);
         let seed = self.book.seed_with_room(SHORT_BYTES)?;
         let place = self.draw.place();
-        let moment = later(self.latest, now);
+        let moment = self.latest.later(now);
         let Ok(effects) = self.server.tick(alloc, now, &mut self.draw) else {
             self.draw = D::at(&seed, place);
             return Err(DeskFault::Memory);
@@ -114,7 +113,7 @@ impl<K: Disk + Drop, S: Seal + Drop, D: Seeded + Drop> Kept<K, S, D> {
         is_early(now);
         let seed = self.book.seed_with_room(ATTACH_BYTES)?;
         let place = self.draw.place();
-        let moment = later(self.latest, now);
+        let moment = self.latest.later(now);
         let Ok(effects) = self.server.attach(alloc, key, session, now, &mut self.draw) else {
             self.draw = D::at(&seed, place);
             return Err(DeskFault::Memory);
@@ -164,7 +163,7 @@ impl<K: Disk + Drop, S: Seal + Drop, D: Seeded + Drop> Kept<K, S, D> {
         is_early(now);
         let seed = self.book.seed_with_room(SHORT_BYTES + packet.len() as u64)?;
         let place = self.draw.place();
-        let moment = later(self.latest, now);
+        let moment = self.latest.later(now);
         let Ok(reply) = self.server.on_packet(alloc, now, packet, &mut self.draw) else {
             self.draw = D::at(&seed, place);
             return Err(DeskFault::Memory);

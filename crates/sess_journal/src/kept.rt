@@ -1,6 +1,6 @@
 //! A server that keeps a journal.
 
-ghost use Rattle.std.specs.Prelude.{◌≡◌, ◌≤◌, ◌<◌, ◌^◌, ℕ, List, [], ◌++◌, None, Some, IfOk, IfErr, IfSome, IsSomeAnd, OnOk, is_some, true};
+ghost use Rattle.std.specs.Prelude.{◌≡◌, ◌≤◌, ◌<◌, ◌^◌, ℕ, List, [], ◌++◌, None, Some, IfOk, IfErr, IfSome, IsSomeAnd, MatchOption, OnOk, is_some, true};
 ghost use Rattle.disks.specs.Told.{DiskTold};
 ghost use Rattle.mt_edge.specs.Faults.{Rose};
 ghost use Rattle.sess_records.specs.declared.records.Record.{Record};
@@ -10,12 +10,13 @@ ghost use Rattle.sess_records.specs.Standing.{HasNext, Holds};
 ghost use Rattle.server_rules.specs.Server.{fresh_server};
 ghost use Rattle.sess_journal.specs.Keeping.{IsSameDisk, KeepsFor, Opened, Resumed, disk_in, ending};
 ghost use Rattle.sess_journal.specs.Opening.{IsKeptAfter, IsLawfulFile, MayBecome, disk_left};
-ghost use Rattle.sess_replay.specs.Files.{IsNoJournalAt};
+ghost use Rattle.sess_journal.specs.Files.{IsNoJournalAt};
 ghost use Rattle.sess_journal.specs.Playing.{Follows, IsReady, StandsAt, basis_for};
-ghost use Rattle.sess_replay.specs.Replay.{Reached, Replays, at_first, bases_of};
+ghost use Rattle.sess_journal.specs.Replay.{Reached, Replays, at_first, bases_of};
 
 use crate::book::Book;
-use crate::played::{PlayFault, Played, later};
+use crate::laws::lawful_files_are_opened;
+use crate::played::{PlayFault, Played};
 use disks::Disk;
 use draws::Seeded;
 use envelope::Seal;
@@ -23,7 +24,6 @@ use msg_ids::Moment;
 use server_core::Server;
 use sess_records::laws::calls_in_a_row;
 use sess_records::{Event, Journal, JournalFault, Opening};
-use sess_replay::laws::lawful_files_are_opened;
 use std::alloc::Global;
 use std::fmt;
 use std::marker::Model;
@@ -140,6 +140,13 @@ impl<K: Disk + Drop, S: Seal + Drop, D: Seeded + Drop> Kept<K, S, D> {
             Ok(journal) => resume(alloc, journal, played, now),
             Err(disk) => Err((disk, JournalFault::Disk)),
         }
+    }
+
+    /// The length of its journal in bytes, up to the closed gate behind the last record, while that is open.
+    pub fn journal_len(&self) -> Option<u64>
+        ensures { MatchOption self.now.book.journal (result ≡ None) (λ file. result ≡ Some file.len) }
+    {
+        self.book.len()
     }
 
     /// The disk, as it stands.
@@ -273,7 +280,7 @@ fn resume<K: Disk + Drop, S: Seal + Drop, D: Seeded + Drop>(
     };
     let mut played = played;
     let place = played.draw.place();
-    let moment = later(played.latest, now).seconds();
+    let moment = played.latest.later(now).seconds();
     let Ok(_done) = played.interrupted(alloc, moment, place) else {
         return Err((journal.into_disk(), JournalFault::Memory));
     };

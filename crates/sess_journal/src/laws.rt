@@ -1,23 +1,43 @@
-//! What comes back, as contracts of functions that do nothing.
+//! What follows from the definitions of records, and what comes back after a crash, as contracts of functions that do nothing.
 
 ghost use Rattle.std.specs.Prelude.{◌≡◌, ◌++◌, [], true, ℕ, List, Some, IsSomeAnd, is_some};
 ghost use Rattle.disks.specs.Told.{DiskTold};
 ghost use Rattle.sess_records.specs.declared.records.Record.{Record};
+ghost use Rattle.envelope.specs.Lawful.{OpensWhatItSealed};
 ghost use Rattle.sess_records.specs.Crashes.{Leaves};
+ghost use Rattle.sess_records.specs.Format.{Spells};
 ghost use Rattle.server_rules.specs.Server.{Server as Rules, fresh_server};
 ghost use Rattle.sess_journal.specs.Back.{ComesBack, HoldsBytes, HoldsSome, MayHold, MayLeaveIn, ReturnsAfter};
 ghost use Rattle.sess_journal.specs.Histories.{Comes};
 ghost use Rattle.sess_journal.specs.Keeping.{Adds, KeepsFor, Opened, Seen, disk_in};
 ghost use Rattle.sess_journal.specs.Opening.{MayBecome};
-ghost use Rattle.sess_replay.specs.Files.{IsNoJournalAt};
-ghost use Rattle.sess_replay.specs.Replay.{Reached, Replays, at_first, bases_of};
+ghost use Rattle.sess_journal.specs.Files.{IsNoJournalAt};
+ghost use Rattle.sess_journal.specs.Replay.{Basis, Reached, Replays, at_first, bases_of};
 
 use disks::Disk;
 use disks::laws::{crashes_after_a_sync, crashes_by_acts};
-use draws::Seeded;
+use draws::{Draw, Seeded};
 use envelope::Seal;
 use sess_records::laws::{calls_in_a_row, files_spell_one_list};
-use sess_replay::laws::{lawful_files_are_opened, records_lead_to_one_server};
+
+/// Records lead to one server, whose packets open to one envelope each. Those in front of a list of lawful records are lawful.
+pub fn records_lead_to_one_server<D: Draw>()
+    ensures one { (basis : Basis D) (entries : List Record) (before after other : Reached) → OpensWhatItSealed basis.lock
+        → Replays basis entries before after → Replays basis entries before other → after ≡ other }
+    ensures parts { (basis : Basis D) (entries more : List Record) (before after : Reached) → Replays basis (entries ++ more) before after
+        → (between : Reached) × Replays basis entries before between × Replays basis more between after }
+    ensures whole { (basis : Basis D) (entries more : List Record) (before between after : Reached) → Replays basis entries before between
+        → Replays basis more between after → Replays basis (entries ++ more) before after }
+{}
+
+/// A file that spells lawful records is no journal from no place on.
+pub fn lawful_files_are_opened<D: Draw>()
+    ensures { (by_seed : List ℕ → Basis D) (seed : List ℕ) (entries : List Record) (reached : Reached) (file : List ℕ) (at : ℕ)
+        → OpensWhatItSealed (by_seed seed).lock → Spells seed entries file → Replays (by_seed seed) entries at_first reached
+        → IsNoJournalAt by_seed at file → ⊥ }
+{
+    files_spell_one_list();
+}
 
 /// After a crash at any moment of a call of a [`Kept`](crate::Kept), or after the call alone, whoever opens what is left under the
 /// same ring has the server of all records from before the call and of the first ones that it added, with a run that was cut

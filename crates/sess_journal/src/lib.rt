@@ -3,8 +3,8 @@
 //!
 //! [`Kept::create`] makes one with a new journal, and [`Kept::open`] plays the records that a disk spells, and answers a run
 //! that was cut off. A packet, a tick and an attach are stepped, recorded, and then answered; of a run its begin is recorded
-//! before it and its reply behind it. `sess_replay` says which record is lawful in its place and which server records lead to.
-//! Whatever a crash at any moment of such a call leaves is a journal, and whoever opens it has the server of every event that
+//! before it and its reply behind it. `specs/Replay.antt` says which record is lawful in its place and which server records lead
+//! to, `specs/Files.antt` what the first place of a file is where no lawful one stands. Whatever a crash at any moment of such a call leaves is a journal, and whoever opens it has the server of every event that
 //! was answered ([`laws::what_comes_back`]). So it is of an opening, and whatever happens to a new journal by such servers,
 //! openings and crashes, none refuses it ([`laws::journals_stay_journals`]).
 #![tactic(auto)]

@@ -6,7 +6,7 @@ ghost use Rattle.sess_records.specs.declared.records.Event.TheVariants.{Packet, 
 ghost use Rattle.sess_records.specs.Format.{IsRecord};
 ghost use Rattle.sess_journal.specs.declared.played.PlayFault.TheVariants as faults;
 ghost use Rattle.sess_journal.specs.Playing.{IsReady, Leads, StandsAt, basis_for};
-ghost use Rattle.sess_replay.specs.Replay.{IsLawful, LeadsTo, Plays, Reached, after_reply, at_first, bases_of, reached_by, setting_at};
+ghost use Rattle.sess_journal.specs.Replay.{IsLawful, LeadsTo, Plays, Reached, after_reply, at_first, bases_of, reached_by, setting_at};
 
 use crate::recorded::Recorded;
 use draws::laws::seeded_draws_go_on;
@@ -305,16 +305,5 @@ impl<S: Seal + Drop, D: Seeded + Drop> Played<S, D> {
         self.latest = now;
         self.begun = None;
         Ok(())
-    }
-}
-
-/// The later of two moments.
-pub(crate) fn later(one: Moment, other: Moment) -> Moment
-    ensures { result ≡ max one other }
-{
-    if one.seconds() < other.seconds() {
-        other
-    } else {
-        one
     }
 }

@@ -2,7 +2,7 @@
 
 ghost use Rattle.std.specs.Prelude.{◌≡◌, [], IfOk};
 ghost use Rattle.regs_service.specs.Served.{IsReply};
-ghost use Rattle.sess_replay.specs.Replay.{always, run_interrupted};
+ghost use Rattle.sess_journal.specs.Replay.{always, run_interrupted};
 
 use octets::{Memory, Octets};
 use regs_service::{NoMemory, Service};

@@ -10,10 +10,9 @@ ghost use Rattle.server_session.specs.Says.{Keys, setting_of};
 ghost use Rattle.server_core.specs.declared.desk.DeskFault.TheVariants as faults;
 ghost use Rattle.server_core.specs.Desks.{Does};
 ghost use Rattle.sess_journal.specs.Keeping.{HasBegun, HasCounted, IfNothingDone, IsAfterBegin, IsSameDisk, Journals, KeepsFor, OfDisks, Refuses, entry_at, reply_at};
-ghost use Rattle.sess_replay.specs.Replay.{bases_of};
+ghost use Rattle.sess_journal.specs.Replay.{bases_of};
 
 use crate::kept::Kept;
-use crate::played::later;
 use crate::staging::{events_begin, is_early};
 use disks::Disk;
 use draws::{Draw, Seeded};
@@ -100,7 +99,7 @@ impl<K: Disk + Drop, S: Seal + Drop, D: Seeded + Drop> Kept<K, S, D> {
         is_early(now);
         let seed = self.book.seed_with_room(WORK_BYTES)?;
         let place = self.draw.place();
-        let moment = later(self.latest, now);
+        let moment = self.latest.later(now);
         self.book
             .add(moment.seconds(), place, Event::Begin { job: k as u64 })?;
         Ok(seed)
@@ -135,7 +134,7 @@ impl<K: Disk + Drop, S: Seal + Drop, D: Seeded + Drop> Kept<K, S, D> {
         keys_are_asked_by_packets_alone::<D, V>();
         is_early(now);
         let place = self.draw.place();
-        let moment = later(self.latest, now);
+        let moment = self.latest.later(now);
         let request = self.server.ready_request(k).unwrap();
         let Ok(foreseen) = service.foresee(alloc, request) else {
             return Err(DeskFault::Memory);

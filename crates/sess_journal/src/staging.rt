@@ -6,7 +6,7 @@ ghost use Rattle.sess_records.specs.declared.records.Record.{Record};
 ghost use Rattle.server_rules.specs.Server.{Server as Rules};
 ghost use Rattle.sess_journal.specs.Keeping.{HasBegun, KeepsFor, Seen};
 ghost use Rattle.sess_journal.specs.Staging.{RunStage, Stage};
-ghost use Rattle.sess_replay.specs.Replay.{bases_of};
+ghost use Rattle.sess_journal.specs.Replay.{bases_of};
 
 use disks::Disk;
 use disks::laws::{crashes_after_a_sync, crashes_by_acts};

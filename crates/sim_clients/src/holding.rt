@@ -32,17 +32,6 @@ use envelope::{Dir, Opened, Seal};
 use msg_ids::Moment;
 use std::alloc::Global;
 
-/// The later of two moments.
-pub(crate) fn later(one: Moment, other: Moment) -> Moment
-    ensures { result ≡ max one other }
-{
-    if one.seconds() < other.seconds() {
-        other
-    } else {
-        one
-    }
-}
-
 /// Whether bytes that come down open at a moment.
 pub(crate) fn opens<S: Seal>(
     alloc: Global,

@@ -99,7 +99,7 @@ impl Seat {
         ensures told { (opens : ℕ → Dir → List ℕ → Option Envelope) (seat : WorldSeat) → IsReading S.lock (S.keys seal.now) opens
             → StandsFor self.now seat → IfOk result (λ told. told ≡ is_some (opens (seat_now seat) Down bytes.now)) }
     {
-        let now = holding::later(self.holder().moment(), Moment::new(self.clock));
+        let now = self.holder().moment().later(Moment::new(self.clock));
         holding::opens(alloc, now, seal, bytes)
     }
 

@@ -136,7 +136,7 @@ impl<S: Seal, V: Service> Host<S, V> {
         self.past.reserve(alloc)?;
         let now = Moment::new(self.clock);
         let Effects { out, entries } = self.server.tick(alloc, now, draw)?;
-        self.moment = later(self.moment, now);
+        self.moment = self.moment.later(now);
         self.past.takes(out, entries);
         Ok(())
     }
@@ -165,7 +165,7 @@ impl<S: Seal, V: Service> Host<S, V> {
         let Effects { out, entries } = self
             .server
             .work(alloc, place, &mut self.service, now, draw)?;
-        self.moment = later(self.moment, now);
+        self.moment = self.moment.later(now);
         self.past.takes(out, entries);
         Ok(())
     }
@@ -192,7 +192,7 @@ impl<S: Seal, V: Service> Host<S, V> {
         self.past.reserve(alloc)?;
         let now = Moment::new(self.clock);
         let Effects { out, entries } = self.server.attach(alloc, key, session, now, draw)?;
-        self.moment = later(self.moment, now);
+        self.moment = self.moment.later(now);
         self.past.takes(out, entries);
         Ok(())
     }
@@ -239,7 +239,7 @@ impl<S: Seal, V: Service> Host<S, V> {
             → IfOk result (λ opens. opens ≡ is_some (setting.opens (server_now world) Up bytes.now)) }
     {
         S::opens_what_it_sealed();
-        let now = later(self.moment, Moment::new(self.clock));
+        let now = self.moment.later(Moment::new(self.clock));
         match self.server.seal().unseal(alloc, now, Dir::Up, bytes) {
             Opened::Envelope(_) => Ok(true),
             Opened::Refused(_) => Ok(false),
@@ -268,7 +268,7 @@ impl<S: Seal, V: Service> Host<S, V> {
         self.past.reserve(alloc)?;
         let now = Moment::new(self.clock);
         let Effects { out, entries } = hears::<S, V, D>(&mut self.server, alloc, now, bytes, draw)?;
-        self.moment = later(self.moment, now);
+        self.moment = self.moment.later(now);
         self.past.takes(out, entries);
         Ok(())
     }
@@ -299,19 +299,8 @@ impl<S: Seal, V: Service> Host<S, V> {
             return Ok(false);
         };
         let Effects { out, entries } = hears::<S, V, D>(&mut self.server, alloc, now, bytes, draw)?;
-        self.moment = later(self.moment, now);
+        self.moment = self.moment.later(now);
         self.past.takes(out, entries);
         Ok(true)
-    }
-}
-
-/// The later of two moments.
-fn later(one: Moment, other: Moment) -> Moment
-    ensures { result ≡ max one other }
-{
-    if one.seconds() < other.seconds() {
-        other
-    } else {
-        one
     }
 }

@@ -51,6 +51,20 @@ fn push_call(
 }
 
 /// Puts what became of a call behind a text.
+///
+/// # Errors
+///
+/// `Memory`, and then the text is as it was.
+pub fn state_text(alloc: Global, into: &mut Octets, state: &CallState<'_>) -> Result<(), Memory>
+    ensures told { OnOk result (into.new ≡ into.old ++ state_text (shown state.now)) }
+    ensures unchanged_on_memory { OnErr result (into.new ≡ into.old) }
+{
+    let mut text = Octets::new(alloc);
+    push_state(alloc, &mut text, state)?;
+    into.push_all(alloc, text.as_slice())
+}
+
+/// Puts what became of a call behind a text.
 fn push_state(alloc: Global, text: &mut Octets, state: &CallState<'_>) -> Result<(), Memory>
     ensures { OnOk result (text.new ≡ text.old ++ state_text (shown state.now)) }
 {

@@ -14,7 +14,7 @@ mod reply;
 mod summary;
 mod wire;
 
-pub use call::call_line;
+pub use call::{call_line, state_text};
 pub use client::calls_of_client;
 pub use clients::{Clients, lines_of_clients};
 pub use entry::{EntryLine, entry_line};

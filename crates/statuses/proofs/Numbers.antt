@@ -19,6 +19,7 @@ status_of n =
     else if n == 9 then status.Memory
     else if n == 10 then status.NumbersSpent
     else if n == 11 then status.NotListening
+    else if n == 12 then status.JournalFault
     else status.Broken
 
 its-own : (one : Status) → status_of (number_of one) ≡ one
@@ -34,6 +35,7 @@ its-own status.TurnsSpent = refl
 its-own status.Memory = refl
 its-own status.NumbersSpent = refl
 its-own status.NotListening = refl
+its-own status.JournalFault = refl
 its-own status.Broken = refl
 
 pub same-number : (one other : Status) → number_of one ≡ number_of other → one ≡ other

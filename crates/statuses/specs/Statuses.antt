@@ -17,6 +17,7 @@ number_of status.TurnsSpent = 8
 number_of status.Memory = 9
 number_of status.NumbersSpent = 10
 number_of status.NotListening = 11
+number_of status.JournalFault = 12
 number_of status.Broken = 13
 
 -- it is the number of a status of which this holds

@@ -30,6 +30,8 @@ pub enum Status {
     NumbersSpent,
     /// No connections can be taken, or a child process can't be started, read or waited for.
     NotListening,
+    /// The journal's file can't be opened, is neither empty nor a journal, or is full; or a call of its disk failed.
+    JournalFault,
     /// A trace breaks a sentence of those by which calls execute at most once.
     Broken,
 }
@@ -52,6 +54,7 @@ impl Status {
             Status::Memory => 9,
             Status::NumbersSpent => 10,
             Status::NotListening => 11,
+            Status::JournalFault => 12,
             Status::Broken => 13,
         }
     }

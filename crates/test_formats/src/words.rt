@@ -37,15 +37,15 @@ fn words_and_what_they_say(rt: HostRuntime) -> Result<(), Fail> {
         ("load -- 7", "Load { calls: 7 }"),
         (
             "serve --keys f --port 1 --conns 1",
-            "Serve(ServeOptions { keys: FileName { text: \"f\" }, port: 1, conns: 1, stop_after: None })",
+            "Serve(ServeOptions { keys: FileName { text: \"f\" }, port: 1, conns: 1, stop_after: None, journal: None })",
         ),
         (
-            "serve --stop-after 1 --conns=1000 --port=65535 --keys=-k",
-            "Serve(ServeOptions { keys: FileName { text: \"-k\" }, port: 65535, conns: 1000, stop_after: Some(1) })",
+            "serve --stop-after 1 --journal=-j --conns=1000 --port=65535 --keys=-k",
+            "Serve(ServeOptions { keys: FileName { text: \"-k\" }, port: 65535, conns: 1000, stop_after: Some(1), journal: Some(FileName { text: \"-j\" }) })",
         ),
         (
             "serve --keys serve --port 80 --conns 2 --stop-after 1000000000",
-            "Serve(ServeOptions { keys: FileName { text: \"serve\" }, port: 80, conns: 2, stop_after: Some(1000000000) })",
+            "Serve(ServeOptions { keys: FileName { text: \"serve\" }, port: 80, conns: 2, stop_after: Some(1000000000), journal: None })",
         ),
         // The bytes 01 to 08, the least first, are 0x0807060504030201.
         (
@@ -128,7 +128,8 @@ fn words_that_are_refused(rt: HostRuntime) -> Result<(), Fail> {
         "serve --keys f --port 1 --conns 1 --stop-after 1000000001",
         "serve --keys f --port 1 --conns 1 --stop-after",
         "serve --keys f --port 1 --conns 1 --conns 1",
-        "serve --keys f --port 1 --conns 1 --journal j",
+        "serve --keys f --port 1 --conns 1 --journal",
+        "serve --keys f --port 1 --conns 1 --journal j --journal j",
         "serve --keys f --port 1 --conns 1 x",
         "serve --keys -f --port 1 --conns 1",
         "call --keys k --key 0102030405060708 --port 1",

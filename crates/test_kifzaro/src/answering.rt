@@ -2,14 +2,13 @@
 
 use crate::telling::Text;
 use kifzaro::{Error, Moment, Server, SessionName};
-use std::alloc::Global;
 use std::test::Fail;
 use test_keys::KEY_ID;
 use test_lines::Line;
 
 // The next request is handed out.
-fn asks(server: &mut Server, alloc: Global, text: &mut Text) -> Result<(), Fail> {
-    match server.next_request(alloc) {
+fn asks(server: &mut Server, text: &mut Text) -> Result<(), Fail> {
+    match server.next_request() {
         Ok(true) => tell_request(server, text),
         Ok(false) => text.tell("no request"),
         Err(error) => text.tell_error(&error),
@@ -41,7 +40,7 @@ pub(crate) fn is_answered(
     text: &mut Text,
 ) -> Result<bool, Fail> {
     match line.verb {
-        "ask" => asks(server, line.alloc, text)?,
+        "ask" => asks(server, text)?,
         "answer" => {
             let reply = line.bytes()?;
             text.tell_done("answered", server.answer(line.alloc, now, reply.as_slice()))?;

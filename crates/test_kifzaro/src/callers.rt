@@ -1,6 +1,6 @@
 //! Functions as a program has them over the library, with contracts of their own that need no proof file.
 
-ghost use Rattle.std.specs.Prelude.{◌≡◌, ◌≤◌, None, IfNone, IfOk, IfSome, Ok, OnErr, OnSome, Some, is_some, length, max, true};
+ghost use Rattle.std.specs.Prelude.{◌≡◌, ◌≤◌, None, IfNone, IfOk, IfSome, Ok, OnErr, OnSome, Some, false, is_some, length, max, true};
 ghost use Rattle.call_table.specs.Table.{call_no};
 ghost use Rattle.client_core.specs.Flushed.{setting_of};
 ghost use Rattle.client_core.specs.Holding.{kept_of};
@@ -15,7 +15,7 @@ ghost use Rattle.kifzaro.specs.Drawing.{drawing};
 ghost use Rattle.kifzaro.specs.Servers as servers;
 ghost use Rattle.kifzaro.specs.Servers.{after_reply};
 
-use kifzaro::{CallId, Client, Error, Moment, Octets, Server};
+use kifzaro::{CallId, Client, Error, Framed, Moment, Octets, Server, Wire, fits};
 use std::alloc::Global;
 
 /// The most calls that a caller wants to have.
@@ -58,11 +58,48 @@ pub fn answers_with(
     ensures is { (keys : Keys) (rules : ServerRules) → servers.Is server.old rules
         → IfOk result (λ there. there ≡ true → servers.Is server.new (after_reply (event_at (max server.old.server.moment now) drawing keys) reply.now rules server.old.draw).server) }
 {
-    if !server.next_request(alloc)? {
+    if !server.next_request()? {
         return Ok(false);
     }
     server.answer(alloc, now, reply)?;
     Ok(true)
+}
+
+/// Puts the packet that a client sends next behind a text, in a frame of the wire's form: whether there is one.
+pub fn frames_next(
+    client: &mut Client,
+    wire: &mut Wire<Framed>,
+    alloc: Global,
+    now: Moment,
+    out: &mut Octets,
+) -> Result<bool, Error>
+    ensures framed { IfOk result (λ there. there ≡ false → out.new ≡ out.old) }
+{
+    match client.poll_transmit(alloc, now)? {
+        Some(packet) if fits(packet.as_slice()) => {
+            wire.put(alloc, packet.as_slice(), out)?;
+            Ok(true)
+        }
+        _ => Ok(false),
+    }
+}
+
+/// The same of a server.
+pub fn frames_out(
+    server: &mut Server,
+    wire: &mut Wire<Framed>,
+    alloc: Global,
+    out: &mut Octets,
+) -> Result<bool, Error>
+    ensures framed { IfOk result (λ there. there ≡ false → out.new ≡ out.old) }
+{
+    match server.poll_transmit(alloc) {
+        Some(packet) if fits(packet.packet.as_slice()) => {
+            wire.put(alloc, packet.packet.as_slice(), out)?;
+            Ok(true)
+        }
+        _ => Ok(false),
+    }
 }
 
 /// Whether a packet that comes after the next request was handed out is refused as busy: where one was handed out, it is, and
@@ -75,7 +112,7 @@ pub fn is_busy_then(
 ) -> Result<bool, Error>
     ensures busy { IfOk result (λ busy. busy ≡ is_some server.new.asked) }
 {
-    if !server.next_request(alloc)? {
+    if !server.next_request()? {
         return Ok(false);
     }
     match server.handle_packet(alloc, now, packet) {

@@ -2,6 +2,7 @@
 
 use crate::outside::{Faults, Stream};
 use crate::running::{Ended, Given, ran, starts, words_of};
+use disks::{MemDisks, MemFile};
 use mt_edge::MemKids;
 use octets::{Memory, Octets};
 use std::alloc::{AllocError, Global};
@@ -16,12 +17,14 @@ const PIECE_BYTES: usize = 4_096;
 /// a case says no other.
 const ANSWER_BYTES: usize = 280;
 
-/// What a case has by now: what its run is given, what comes to it over its links and what it sent over them, and what is told.
+/// What a case has by now: what its run is given, what comes to it over its links and what it sent over them, what a journal holds
+/// that its first server left, and what is told.
 #[derive(Drop)]
 struct Case {
     given: Given,
     down: Stream,
     up: Stream,
+    left: Octets,
     text: String,
 }
 
@@ -33,6 +36,7 @@ impl Case {
                 words: Vec::new(alloc),
                 input: Octets::new(alloc),
                 keys: both_keys(alloc)?,
+                journal: None,
                 reads: (PIECE_BYTES, 0),
                 writes: (PIECE_BYTES, 0),
                 faults: Faults::none(),
@@ -40,6 +44,7 @@ impl Case {
             },
             down: Stream::new(alloc),
             up: Stream::new(alloc),
+            left: Octets::new(alloc),
             text: String::new(alloc),
         })
     }
@@ -62,21 +67,31 @@ impl Case {
         Ok(())
     }
 
-    // A server of these words over the first link or the second one hears that, and what it says comes next.
+    // A server of these words over the first link or the second one hears that, and what it says comes next. The file `j` of the
+    // first one is empty, and that of the second one holds what the first one left.
     fn serves(&mut self, line: &mut Line<'_>) -> Result<(), Fail> {
         let alloc = line.alloc;
         let is_first = line.word() == "first";
         let words = words_of(alloc, line.rest())?;
         // (each server draws other words)
         let seed = if is_first { 2 } else { 3 };
-        let sent = answer(
+        let journal = if is_first {
+            Octets::new(alloc)
+        } else {
+            Octets::copy(alloc, self.left.as_slice())?
+        };
+        let (sent, left) = answer(
             alloc,
             &self.given,
             words.as_slice(),
             self.up.over(is_first),
             seed,
+            journal,
         )?;
         self.down.set(is_first, sent);
+        if is_first {
+            self.left = left;
+        }
         Ok(())
     }
 
@@ -89,6 +104,7 @@ impl Case {
         match verb {
             "pairs" => put_starts(text, alloc, &ended.kids),
             "serves" => put_served(text, alloc, &ended),
+            "keeps" => put_kept(text, alloc, &ended),
             _ => Ok(()),
         }
     }
@@ -104,6 +120,7 @@ impl Case {
             "each" => put_each(&mut given.input, line)?,
             "keys" => given.keys = keys_of(alloc, line.rest())?,
             "file" => given.keys = line.bytes()?,
+            "journal" => given.journal = Some(line.bytes()?),
             "read" => given.reads = piece_of(line)?,
             "write" => given.writes = piece_of(line)?,
             "fail" => given.faults.set(line)?,
@@ -125,6 +142,11 @@ impl Case {
                 let most = line.small()? as usize;
                 Ok(cut(line.alloc, &mut self.down.first, most)?)
             }
+            "again" => {
+                let Ended { disks, .. } = self.ran(line.alloc)?;
+                self.given.journal = Some(held(line.alloc, &disks)?);
+                Ok(())
+            }
             "turn" => {
                 self.down = std::mem::replace(&mut self.up, Stream::new(line.alloc));
                 Ok(())
@@ -134,20 +156,22 @@ impl Case {
                 self.tells(line.alloc, most, "front")?;
                 Ok(self.text.push_str("\n")?)
             }
-            "run" | "pairs" | "serves" => self.tells(line.alloc, usize::MAX, line.verb),
+            "run" | "pairs" | "serves" | "keeps" => self.tells(line.alloc, usize::MAX, line.verb),
             _ => Err(Fail::new("no such line")),
         }
     }
 }
 
-// What a server of these words writes that hears this over its one connection. The net of a server notes its listen first.
+// What a server of these words writes that hears this over its one connection, and what its journal holds then. The net of a
+// server notes its listen first.
 fn answer(
     alloc: Global,
     given: &Given,
     words: &[String],
     heard: &Octets,
     seed: u8,
-) -> Result<Octets, Fail> {
+    journal: Octets,
+) -> Result<(Octets, Octets), Fail> {
     let come = Stream {
         first: Octets::copy(alloc, heard.as_slice())?,
         second: Octets::new(alloc),
@@ -156,14 +180,15 @@ fn answer(
         words: Vec::new(alloc),
         input: Octets::new(alloc),
         keys: Octets::copy(alloc, given.keys.as_slice())?,
+        journal: Some(journal),
         reads: (PIECE_BYTES, 0),
         writes: (PIECE_BYTES, 0),
         faults: Faults::none(),
         piece_bytes: given.piece_bytes,
     };
-    let Ended { sent, .. } = ran(alloc, &given, words, &come, seed)?;
+    let Ended { sent, disks, .. } = ran(alloc, &given, words, &come, seed)?;
     let Stream { second, .. } = sent;
-    Ok(second)
+    Ok((second, held(alloc, &disks)?))
 }
 
 // Puts a number and a word behind it, and ends the line.
@@ -188,6 +213,38 @@ fn put_starts(text: &mut String, alloc: Global, kids: &MemKids) -> Result<(), Fa
 fn put_served(text: &mut String, alloc: Global, ended: &Ended) -> Result<(), Fail> {
     put_counted(text, alloc, ended.net_calls as u64, " calls")?;
     put_frames(text, alloc, ended.sent.second.as_slice())
+}
+
+// Puts the names of the files that were asked for, how many faults of them were counted, how many bytes the journal holds then and
+// the first ones; and then how many calls the net had, and the frames over its second one's connection.
+fn put_kept(text: &mut String, alloc: Global, ended: &Ended) -> Result<(), Fail> {
+    for name in ended.disks.asked() {
+        text.push_str("asked ")?;
+        text.push_str(str::from_utf8(name.as_slice()).unwrap_or("?"))?;
+        text.push_str("\n")?;
+    }
+    put_counted(text, alloc, ended.disks.faults(), " faults")?;
+    let held = held(alloc, &ended.disks)?;
+    let held = held.as_slice();
+    let first = hex::encode(alloc, held.get(..8).unwrap_or(held))?;
+    let first = if held.is_empty() { "-" } else { first.as_str() };
+    let count = held.len();
+    let line = format!(in alloc; "{count} bytes held, first {first}\n")?;
+    text.push_str(line.as_str())?;
+    put_served(text, alloc, ended)
+}
+
+// What the first file holds, where it isn't open.
+fn held(alloc: Global, disks: &MemDisks) -> Result<Octets, Fail> {
+    match disks.files().first() {
+        Some(
+            MemFile {
+                disk: Some(disk),
+                ..
+            },
+        ) => Ok(Octets::copy(alloc, disk.contents())?),
+        _ => Ok(Octets::new(alloc)),
+    }
 }
 
 // Puts a line for each frame of the intermediate form: how many bytes its packet has.

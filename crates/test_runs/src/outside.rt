@@ -1,5 +1,6 @@
 //! The outside of a run, over memory.
 
+use disks::{MemDisk, MemDisks, MemFile};
 use mt_edge::{MemFiles, MemKid, MemKids, MemLink, MemNet, NamedFile, NetCall, Outcome};
 use octets::Octets;
 use std::alloc::Global;
@@ -12,8 +13,13 @@ const ROOM_BYTES: usize = 10_000;
 /// Room for the reads of a link.
 const READS: usize = 4_000;
 
-/// Which calls fail, counted from 1, and none by 0: of the key files, of the net, of its first link and of its second one, and
-/// of the spawner.
+/// Room for what a journal holds, in bytes, and for the calls of its disk.
+const JOURNAL_BYTES: usize = 4_000;
+
+const DISK_CALLS: usize = 100;
+
+/// Which calls fail, counted from 1, and none by 0: of the key files, of the net, of its first link and of its second one, of
+/// the spawner, of the files of journals, and of an open one.
 #[derive(Clone, Copy)]
 pub(crate) struct Faults {
     pub(crate) files: u64,
@@ -21,6 +27,8 @@ pub(crate) struct Faults {
     pub(crate) first: u64,
     pub(crate) second: u64,
     pub(crate) kids: u64,
+    pub(crate) disks: u64,
+    pub(crate) disk: u64,
 }
 
 impl Faults {
@@ -32,6 +40,8 @@ impl Faults {
             first: 0,
             second: 0,
             kids: 0,
+            disks: 0,
+            disk: 0,
         }
     }
 
@@ -45,6 +55,8 @@ impl Faults {
             "first" => self.first = number,
             "second" => self.second = number,
             "kids" => self.kids = number,
+            "disks" => self.disks = number,
+            "disk" => self.disk = number,
             _ => return Err(Fail::new("no such calls")),
         }
         Ok(())
@@ -126,6 +138,24 @@ pub(crate) fn kids_of(alloc: Global, failing: u64) -> Result<MemKids, Fail> {
         kids.push(MemKid { lines, status: 0 })?;
     }
     Ok(MemKids::new(alloc, kids, &[failing], 8, 10, 20)?)
+}
+
+/// The file of a journal under the name `j`, where it is there.
+pub(crate) fn disks_of(
+    alloc: Global,
+    journal: Option<&Octets>,
+    faults: Faults,
+) -> Result<MemDisks, Fail> {
+    let mut files = Vec::new(alloc);
+    if let Some(journal) = journal {
+        let contents = journal.as_slice();
+        let disk = MemDisk::new(alloc, contents, &[faults.disk], JOURNAL_BYTES, DISK_CALLS)?;
+        files.push(MemFile {
+            name: Octets::copy(alloc, b"j")?,
+            disk: Some(disk),
+        })?;
+    }
+    Ok(MemDisks::new(alloc, files, &[faults.disks], 4, 4)?)
 }
 
 // What was written over the connection that a call of a net made.

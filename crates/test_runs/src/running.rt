@@ -1,6 +1,7 @@
 //! A run of the program, and what it is told to do.
 
-use crate::outside::{Faults, Stream, files_of, kids_of, net_of, sent_over};
+use crate::outside::{Faults, Stream, disks_of, files_of, kids_of, net_of, sent_over};
+use disks::MemDisks;
 use msg_ids::Moment;
 use mt_edge::{
     ChaChaDraw, KidCall, ListClock, MemFiles, MemKids, MemNet, MemSink, MemSource, Seeded,
@@ -13,20 +14,22 @@ use std::test::Fail;
 /// Room for what a run writes, in bytes.
 const OUT_BYTES: usize = 1_048_576;
 
-/// What a run is given: its words, its input and its key file, the most bytes of a read of its input and of a write, which of
+/// What a run is given: its words, its input, its key file and the file of its journal, the most bytes of a read of its input and of a write, which of
 /// these calls fail, counted from 1, and which others do; the most bytes of a read and of a write over a link.
 #[derive(Drop)]
 pub(crate) struct Given {
     pub(crate) words: Vec<String>,
     pub(crate) input: Octets,
     pub(crate) keys: Octets,
+    pub(crate) journal: Option<Octets>,
     pub(crate) reads: (usize, u64),
     pub(crate) writes: (usize, u64),
     pub(crate) faults: Faults,
     pub(crate) piece_bytes: usize,
 }
 
-/// How a run ended, what it wrote, and what it wrote over each link; the calls of its net and its spawner.
+/// How a run ended, what it wrote, and what it wrote over each link; the calls of its net and its spawner, and the files of
+/// journals.
 #[derive(Drop)]
 pub(crate) struct Ended {
     pub(crate) status: u8,
@@ -34,6 +37,7 @@ pub(crate) struct Ended {
     pub(crate) sent: Stream,
     pub(crate) net_calls: usize,
     pub(crate) kids: MemKids,
+    pub(crate) disks: MemDisks,
 }
 
 // What a run reads and writes, but for its input and its output.
@@ -42,6 +46,7 @@ struct Outside {
     files: MemFiles,
     net: MemNet,
     kids: MemKids,
+    disks: MemDisks,
 }
 
 // The status of these words over these, at moment 0, with words drawn from this seed.
@@ -65,6 +70,7 @@ fn status_of(
         &mut outside.kids,
         &mut clock,
         &mut draw,
+        &mut outside.disks,
     ))
 }
 
@@ -84,6 +90,7 @@ fn outside_of(alloc: Global, given: &Given, come: &Stream) -> Result<Outside, Fa
         files: files_of(alloc, given.keys.as_slice(), given.faults.files)?,
         net: net_of(alloc, come, given.piece_bytes, given.faults)?,
         kids: kids_of(alloc, given.faults.kids)?,
+        disks: disks_of(alloc, given.journal.as_ref(), given.faults)?,
     })
 }
 
@@ -104,6 +111,7 @@ pub(crate) fn ran(
         sent: sent_over(alloc, &outside.net)?,
         net_calls: outside.net.calls().len(),
         kids: outside.kids,
+        disks: outside.disks,
     })
 }
 

@@ -1,6 +1,6 @@
 //! Short answers, as another implementation spells them.
 
-use server_answers::Short;
+use server_dispatch::Short;
 use std::test::Fail;
 use test_asserts::same;
 

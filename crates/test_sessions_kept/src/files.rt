@@ -18,6 +18,7 @@ const NEW: &[u8] = b"mtpsess1\0\0\0\0\0\0\0\0\0\0\0\0\0\0\0\0\0\0\0\0\0\0\0\0\0\
 #[test]
 fn a_new_journal_has_41_bytes(rt: HostRuntime) -> Result<(), Fail> {
     let server = created(rt.alloc(), disk(rt.alloc(), b"", &[])?)?;
+    same(server.journal_len(), Some(41))?;
     same(server.into_disk().contents(), NEW)?;
     Ok(())
 }

@@ -8,3 +8,4 @@ pub mod Meeting
 pub mod InOrder
 pub mod Answering
 pub mod Wholes
+pub mod Spelling

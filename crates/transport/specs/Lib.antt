@@ -6,3 +6,4 @@ pub mod Wires
 pub mod Steps
 pub mod Told
 pub mod Ends
+pub mod Spelt

@@ -11,11 +11,12 @@ ghost use Rattle.transport.specs.Forms.{IsSent, frame_of, framing_of};
 ghost use Rattle.transport.specs.Starts.{BeginsFull, IsAwaited, IsRefused, IsSentStart, Opening, Starts};
 ghost use Rattle.transport.specs.Wires.{HasBegun, HasStarted, Hears, Line, Tells};
 ghost use Rattle.transport.specs.Ends.{Sends};
+ghost use Rattle.transport.specs.Spelt.{SpellsMore, TellsMore};
 ghost use Rattle.transport.specs.declared.form.Form.{Form as Framings};
 ghost use Rattle.transport.specs.declared.form.Form.TheVariants as forms;
 
 use crate::form::Form;
-use cipher_modes::laws::ctr_pieces_equal_the_whole;
+use cipher_modes::laws::{ctr_pieces_equal_the_whole, ctr_undoes_itself};
 use framing::laws::{one_reading, streams_go_on};
 use obfus::laws::one_answer;
 
@@ -88,4 +89,13 @@ pub fn sent_bytes_are_taken()
         → Sends client sent (bytes ++ later) → IsRefused bytes wire → ⊥ }
 {
     one_answer();
+}
+
+/// What a wire spells with a packet more, where it tells that packet behind what it told: the writer's frame of it, behind the
+/// frames of the packets before.
+pub fn a_packet_more_is_spelt()
+    ensures { (old new : Line) (packet : List ℕ) → new.form ≡ old.form → TellsMore old new packet → SpellsMore old new packet }
+{
+    ctr_pieces_equal_the_whole();
+    ctr_undoes_itself();
 }

@@ -2,7 +2,7 @@
 use Rattle.std.specs.Prelude.{◌≡◌, ◌≢◌, ◌≤◌, ◌⊎◌, ℕ, ◌==◌, ◌&&◌, Bool, true, false, Option, Some, None, List, [], ◌∷◌, ◌++◌, length, map, slice_get, Contains}
 use Rattle.std.specs.List.{filter, list_any}
 use Rattle.id_window.specs.History.{floor}
-use Rattle.inbox.specs.Kinds.{constructor_of}
+use Rattle.service_tl.specs.Results.{constructor_of}
 use Rattle.service_tl.specs.Schema.{rpc_error}
 use Rattle.regs_service.specs.Served.{Ran, Served}
 use Rattle.server_rules.specs.Server.{Fate, Session, WasDropped}

@@ -23,7 +23,7 @@ loop-line-preserved c =
     record {
       said = λ tail h.
           subst (λ (calls : List ScriptCall). Say SaysScriptCall (lines_in c.args.text.now) calls)
-          (sym (ap (λ (l : List ScriptCall). l ++ tail) c.in_ok-append.ensures ∙ append_assoc _ _ tail))
+          (sym (ap (λ (l : List ScriptCall). l ++ tail) (c.in_ok-append.ensures ∙ ap (λ (row : ScriptCall). c.loop-line.calls.items ++ row ∷ []) c.new-row.ensures) ∙ append_assoc _ _ tail))
           (c.loop-line.invariant.said (call ∷ tail) (subst (λ lines. Say SaysScriptCall lines (call ∷ tail)) (sym c.in-Some.ensures.line) (says, h)));
       good = λ bad h. c.loop-line.invariant.good bad (subst (λ lines. IsFirstBad SaysScriptCall lines bad) (sym c.in-Some.ensures.line) (inr ((call, says), h)));
     }

@@ -5,7 +5,8 @@ use Rattle.frame_len.specs.Lengths.{IsWritten}
 use Rattle.transport.specs.Forms.{is_padded}
 use Rattle.client_node.specs.Flow.{OneFlush}
 use Rattle.client_node.specs.Standing.{DecidedBy, FlushedAs}
-use Rattle.client_node.specs.Writes.{framed, seen}
+use Rattle.client_node.specs.Writes.{seen}
+use Rattle.transport.specs.Spelt.{framed}
 use Rattle.client_node.proofs.Flowing.{ended_decided, flow_packet, flush_nothing, flush_spent}
 use Rattle.client_node.proofs.Sendable.{told_sendable}
 use Rattle.client_node.proofs.flushing.flush_once.Goals as goal

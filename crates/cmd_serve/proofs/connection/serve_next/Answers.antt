@@ -2,7 +2,8 @@ use Rattle.std.proofs.Common.{ℕ, IsSome, IsSomeAnd, Some, ap, sym, subst, ◌�
 use Rattle.mt_edge.specs.Links.{IsFresh, Standing}
 use Rattle.server_node.specs.Trace.{rules_of}
 use Rattle.server_node.specs.Writes.{CountsBy}
-use Rattle.cmd_serve.proofs.Taking.{closed-as, no-journal, some-of, took-one}
+use Rattle.cmd_serve.proofs.Connecting.{disk-end}
+use Rattle.cmd_serve.proofs.Taking.{closed-as, some-of, took-one}
 use Rattle.cmd_serve.proofs.connection.serve_next.Goals as goal
 
 pub returns-in-Link-clause-took : goal.returns-in-Link-clause-took
@@ -12,7 +13,6 @@ returns-in-Link-clause-took g c outside before is stands =
     (g.N.L.Link.told c.new.result) (g.N.L.Link.told c.serve_one-link.result.0) c.serve_one-link.result.1
     (record { desk = g.K.Desk.StandsFor c.serve_one-link.new.desk; drawn = g.K.Desk.drawn c.serve_one-link.new.desk; service = c.serve_one-link.new.service; given = g.C.Clock.given c.serve_one-link.new.clock; left = c.serve_one-link.new.left; calls = g.N.Net.calls c.done.new.self })
     (g.N.L.Link.standing c.in-Link.link).place (g.N.L.Link.faults c.serve_one-link.result.0) (g.N.Net.calls c.args.net.now) (g.N.Net.calls c.accept.new.self)
-    (no-journal c.serve_one-link.result.1 (λ fault same. let both = c.serve_one-link.ensures.journal fault same in both.1 (c.requires.no_journal fault both.0)))
     (λ talk begins. c.serve_one-link.ensures.trace outside talk is begins)
     c.serve_one-link.ensures.record
     (subst (λ (n : ℕ). CountsBy (Some c.serve_one-link.result.1) n (g.N.L.Link.faults c.serve_one-link.result.0)) (ap g.N.L.Link.faults c.new.ensures ∙ c.in-Link.ensures.no_fault_yet) c.serve_one-link.ensures.counted)
@@ -26,13 +26,12 @@ returns-in-Link-clause-took g c outside before is stands =
 pub returns-in-Failed-clause-took : goal.returns-in-Failed-clause-took
 returns-in-Failed-clause-took g c outside before is stands = record { stands = stands; noted = c.in-Failed.ensures.told }
 
-pub returns-in-Link-clause-no_journal : goal.returns-in-Link-clause-no_journal
-returns-in-Link-clause-no_journal g c =
-    no-journal c.serve_one-link.result.1 (λ fault same. let both = c.serve_one-link.ensures.journal fault same in both.1 (c.requires.no_journal fault both.0))
-
 pub returns-in-Link-clause-first_fault : goal.returns-in-Link-clause-first_fault
 returns-in-Link-clause-first_fault g c is none =
     let told = c.in-Link.ensures.first_fault is none in
     let begun = some-of (g.N.L.Link.told c.in-Link.link) IsFresh (c.in-Link.ensures.fresh told) in
     let ended = c.serve_one-link.ensures.first_fault (subst (λ link. IsSome (g.N.L.Link.told link)) (sym c.new.ensures) begun) (ap g.N.L.Link.faults c.new.ensures ∙ c.in-Link.ensures.no_fault_yet) in
     c.done.ensures.goes_on told (subst (λ some. IsSome some) (sym c.close.ensures.told) ended)
+
+pub returns-in-Link-clause-journal : goal.returns-in-Link-clause-journal
+returns-in-Link-clause-journal g c = disk-end g.K.Desk.MayAnswer c.serve_one-link.result.1 c.requires.faults c.serve_one-link.ensures.journal

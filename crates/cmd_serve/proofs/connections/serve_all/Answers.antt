@@ -2,7 +2,7 @@ use Rattle.std.proofs.Common.{List, refl, sym, subst, ◌∙◌, arith}
 use Rattle.auth_keys.specs.declared.ring.RingKey.{RingKey}
 use Rattle.server_node.specs.Trace.{IsOutside, rules_of}
 use Rattle.cmd_serve.specs.Connections.{behind_all}
-use Rattle.cmd_serve.proofs.Connecting.{all-served, counts-going, each-served, left-going, none-so-far, one-more-served}
+use Rattle.cmd_serve.proofs.Connecting.{all-served, counts-desk, counts-going, desk-going, each-served, left-going, none-so-far, one-more-served}
 use Rattle.cmd_serve.proofs.connections.serve_all.Goals as goal
 
 pub connections-init : goal.connections-init
@@ -11,6 +11,7 @@ connections-init g c = record {
   faults = refl;
   tells = λ is none. is;
   some = c.requires.some;
+  desk_count = refl;
   same_keys = refl;
   same_reference = refl;
 }
@@ -23,11 +24,12 @@ connections-preserved g c =
       so_far = λ outside first is stands.
           let so_far = before.so_far outside first is stands in
           one-more-served (rules_of g.K.D.Draw.step g.V.Service.step outside) first c.connections._served (g.N.Net.calls c.args.net.now) (record { desk = g.K.Desk.StandsFor c.connections.desk; drawn = g.K.Desk.drawn c.connections.desk; service = c.connections.service; given = g.C.Clock.given c.connections.clock; left = c.connections.left; calls = g.N.Net.calls c.connections.net }) (record { desk = g.K.Desk.StandsFor c.serve_next-end.new.desk; drawn = g.K.Desk.drawn c.serve_next-end.new.desk; service = c.serve_next-end.new.service; given = g.C.Clock.given c.serve_next-end.new.clock; left = c.serve_next-end.new.left; calls = g.N.Net.calls c.serve_next-end.new.net })
-          c.serve_next-end.result c.serve_next-end.ensures.no_journal none so_far
+          c.serve_next-end.result none so_far
           (c.serve_next-end.ensures.took outside (behind_all first so_far.connections) (subst (λ (ring : List RingKey). IsOutside g.K.S.Seal.lock ring outside) (sym before.same_keys) is) so_far.stands);
       faults = counts-going c.serve_next-end.result (g.N.Net.faults c.args.net.now) (g.N.Net.faults c.connections.net) (g.N.Net.faults c.serve_next-end.new.net) none before.faults c.serve_next-end.ensures.counted;
       tells = λ is none. c.serve_next-end.ensures.first_fault (before.tells is none) (before.faults ∙ none);
       some = left-going c.serve_next-end.result c.connections.left c.serve_next-end.new.left none before.some c.serve_next-end.ensures.left;
+      desk_count = desk-going c.serve_next-end.result (g.K.Desk.fault_count c.args.desk.now) (g.K.Desk.fault_count c.connections.desk) (g.K.Desk.fault_count c.serve_next-end.new.desk) none before.desk_count c.serve_next-end.ensures.desk_counted;
       same_keys = c.serve_next-end.ensures.same_keys ∙ before.same_keys;
       same_reference = c.serve_next-end.ensures.same_reference ∙ before.same_reference;
     }
@@ -37,10 +39,15 @@ returns-in-Some-clause-served g c outside first is stands =
     let before = c.connections.invariant in
     let so_far = before.so_far outside first is stands in
     all-served (rules_of g.K.D.Draw.step g.V.Service.step outside) first c.connections._served c.args.conns (g.N.Net.calls c.args.net.now) (record { desk = g.K.Desk.StandsFor c.connections.desk; drawn = g.K.Desk.drawn c.connections.desk; service = c.connections.service; given = g.C.Clock.given c.connections.clock; left = c.connections.left; calls = g.N.Net.calls c.connections.net }) (record { desk = g.K.Desk.StandsFor c.serve_next-end.new.desk; drawn = g.K.Desk.drawn c.serve_next-end.new.desk; service = c.serve_next-end.new.service; given = g.C.Clock.given c.serve_next-end.new.clock; left = c.serve_next-end.new.left; calls = g.N.Net.calls c.serve_next-end.new.net })
-    c.serve_next-end.result c.in-Some.ending (omega (arith, c.connections-test.true, c.connections.auto._served-end)) (sym c.ending_of.ensures ∙ c.in-Some.is) so_far
+    c.serve_next-end.result c.in-Some.ending c.serve_next-end.ensures.journal (omega (arith, c.connections-test.true, c.connections.auto._served-end)) (sym c.ending_of.ensures ∙ c.in-Some.is) so_far
     (c.serve_next-end.ensures.took outside (behind_all first so_far.connections) (subst (λ (ring : List RingKey). IsOutside g.K.S.Seal.lock ring outside) (sym before.same_keys) is) so_far.stands)
 
 pub returns-clause-served : goal.returns-clause-served
 returns-clause-served g c outside first is stands =
     each-served (rules_of g.K.D.Draw.step g.V.Service.step outside) first c.connections._served c.args.conns (g.N.Net.calls c.args.net.now) (record { desk = g.K.Desk.StandsFor c.connections.desk; drawn = g.K.Desk.drawn c.connections.desk; service = c.connections.service; given = g.C.Clock.given c.connections.clock; left = c.connections.left; calls = g.N.Net.calls c.connections.net })
     (omega (arith, c.connections-test.false, c.connections.auto._served-end)) (c.connections.invariant.so_far outside first is stands)
+
+pub returns-in-Some-clause-desk_counted : goal.returns-in-Some-clause-desk_counted
+returns-in-Some-clause-desk_counted g c =
+    counts-desk c.serve_next-end.result c.in-Some.ending (g.K.Desk.fault_count c.args.desk.now) (g.K.Desk.fault_count c.connections.desk) (g.K.Desk.fault_count c.serve_next-end.new.desk)
+    c.serve_next-end.ensures.journal (sym c.ending_of.ensures ∙ c.in-Some.is) c.connections.invariant.desk_count c.serve_next-end.ensures.desk_counted

@@ -14,6 +14,7 @@ invariant-connections g l = record {
   faults : g.N.Net.faults l.net ≡ g.N.Net.faults l.fn.net;
   tells : IsSome (g.N.Net.calls l.fn.net) → g.N.Net.faults l.fn.net ≡ 0 → IsSome (g.N.Net.calls l.net);
   some : l.left ≢ Some 0;
+  desk_count : g.K.Desk.fault_count l.desk ≡ g.K.Desk.fault_count l.fn.desk;
   same_keys : g.K.Desk.keys l.desk ≡ g.K.Desk.keys l.fn.desk;
   same_reference : g.K.Desk.draw_name l.desk ≡ g.K.Desk.draw_name l.fn.desk;
 }

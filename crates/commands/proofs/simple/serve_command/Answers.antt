@@ -9,4 +9,5 @@ returns c =
     let one = c.in_ok-arg.ensures.shape c.needed.ensures.own ∙ ap₂ with_rule c.new.ensures.app c.needed.ensures.rule in
     let two = c.in_ok-arg-2.ensures.shape c.needed-2.ensures.own ∙ ap₂ with_rule one c.needed-2.ensures.rule in
     let three = c.in_ok-arg-3.ensures.shape c.needed-3.ensures.own ∙ ap₂ with_rule two c.needed-3.ensures.rule in
-    c.in_ok-command.ensures.shape c.option.ensures.own ∙ ap₂ with_rule three c.option.ensures.rule
+    let four = c.in_ok-arg-4.ensures.shape c.option.ensures.own ∙ ap₂ with_rule three c.option.ensures.rule in
+    c.in_ok-command.ensures.shape c.option-2.ensures.own ∙ ap₂ with_rule four c.option-2.ensures.rule

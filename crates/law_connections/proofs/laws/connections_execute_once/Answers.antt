@@ -4,7 +4,7 @@ use Rattle.envelope.specs.Lawful.{OpensWhatItSealed}
 use Rattle.envelope.specs.Packet.{Lock}
 use Rattle.world_rules.specs.Setting.{Setting}
 use Rattle.world_rules.specs.Premises.{Fresh, IsSealed, IsSound}
-use Rattle.law_packet_parts.specs.Sizes.{KeepsSizes}
+use Rattle.envelope.specs.Sizes.{KeepsSizes}
 use Rattle.law_connections.specs.Joint.{Step, joint_of, nobody_yet}
 use Rattle.law_connections.specs.Keeping.{Keeps}
 use Rattle.law_connections.specs.Premises.{AreOf, NoChance}

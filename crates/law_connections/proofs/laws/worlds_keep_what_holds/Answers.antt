@@ -5,7 +5,7 @@ use Rattle.envelope.specs.Packet.{Lock}
 use Rattle.world_rules.specs.Setting.{Setting}
 use Rattle.world_rules.specs.World.{begins}
 use Rattle.law_moves.specs.World.{start}
-use Rattle.law_packet_parts.specs.Sizes.{KeepsSizes}
+use Rattle.envelope.specs.Sizes.{KeepsSizes}
 use Rattle.law_connections.specs.Keeping.{Keeps}
 use Rattle.law_connections.proofs.Worlds.{Growing, Laws, attach_kept, event_kept}
 use Rattle.law_connections.proofs.Steps.{fresh_on, kept_on, served_on}

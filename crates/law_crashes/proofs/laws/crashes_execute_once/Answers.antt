@@ -4,7 +4,7 @@ use Rattle.envelope.specs.Lawful.{OpensWhatItSealed}
 use Rattle.envelope.specs.Packet.{Lock}
 use Rattle.world_rules.specs.Setting.{Setting}
 use Rattle.world_rules.specs.Premises.{Fresh, IsSealed, IsSound}
-use Rattle.law_packet_parts.specs.Sizes.{KeepsSizes}
+use Rattle.envelope.specs.Sizes.{KeepsSizes}
 use Rattle.law_crashes.specs.Crashes.{Step, created, living_of}
 use Rattle.law_crashes.specs.Premises.{AreOf, NoChance}
 use Rattle.law_crashes.proofs.Worlds.{Growing, Known}

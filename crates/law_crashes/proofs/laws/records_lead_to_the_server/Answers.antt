@@ -2,7 +2,7 @@ use Rattle.std.proofs.Common.{ℕ, List}
 use Rattle.auth_keys.specs.declared.ring.RingKey.{RingKey}
 use Rattle.envelope.specs.declared.parts.Dir.TheVariants.{Up}
 use Rattle.envelope.specs.Packet.{Lock}
-use Rattle.sess_replay.specs.Replay.{Basis, always}
+use Rattle.sess_journal.specs.Replay.{Basis, always}
 use Rattle.world_rules.specs.Setting.{Setting}
 use Rattle.world_rules.specs.Premises.{IsSealed}
 use Rattle.law_crashes.specs.Reached.{SeesRing, basis_of}

@@ -1,5 +1,5 @@
 use Rattle.std.proofs.Common.{[], refl}
-use Rattle.client_rules.specs.Client.{Client, calls_of}
+use Rattle.client_rules.specs.Client.{calls_of}
 use Rattle.client_rules.specs.Events.{made}
 use Rattle.law_order.proofs.Events.{all-turn, step-turn}
 use Rattle.law_order.proofs.Following.{nothing-last}

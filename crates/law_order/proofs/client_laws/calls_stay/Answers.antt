@@ -1,5 +1,4 @@
 use Rattle.std.proofs.Common.{List, [], refl, inl, inr}
-use Rattle.std.specs.Prelude.{◌⊎◌}
 use Rattle.envelope.specs.declared.parts.Envelope.{Envelope}
 use Rattle.call_table.specs.Table.{Call}
 use Rattle.client_rules.specs.Client.{Client, calls_of}

@@ -2,16 +2,16 @@ use Rattle.std.proofs.Common.{◌≡◌, ◌+◌, ℕ, None, [], ◌∷◌, refl
 use Rattle.commands.specs.declared.command.ServeOptions.{ServeOptions}
 use Rattle.cmd_call.specs.Owed.{plan_of}
 use Rattle.cmd_pair.specs.Batches.{plan_at}
-use Rattle.cmd_serve.specs.Runs.{Course, Deaf, Draws, Moments, Mute, Refused, Serves, ServesBy, Unbegun, Unread, first_of}
+use Rattle.cmd_serve.specs.Runs.{Course, Deaf, Draws, IsBroken, Moments, Mute, Refused, Serves, ServesBy, Shut, Unbegun, Unread, first_of}
 use Rattle.client_node.specs.declared.plan.Batch.TheVariants as batch
 use Rattle.law_runs.specs.Joining.{IsServing, Served, connections_in, ring_in, start_by}
 use Rattle.law_runs.specs.Told.{acts_told}
 use Rattle.law_runs.proofs.laws.runs_are_told.Goals as goal
 
-served-so : {D : Type 0} (step : D → ℕ × D) (options : ServeOptions) (moments : Moments) (draws : Draws D) (course : Course D) → (served : ServesBy step options moments draws course) → IsServing course
+served-so : {D : Type 0} (step : D → ℕ × D) (options : ServeOptions) (moments : Moments) (draws : Draws D) (course : Course D) → (served : ServesBy step options moments draws course) → (IsBroken course → ⊥) → IsServing course
     → (run : Served step (ring_in course)) × (run.first ≡ first_of options moments draws.before) × (run.connections ≡ connections_in course)
     × ((start_by run).acts ≡ acts_told step options moments draws course served)
-served-so step options moments draws (Serves ring connections ending) served is = (
+served-so step options moments draws (Serves ring connections ending) served whole is = (
   record {
     first = first_of options moments draws.before;
     connections = connections;
@@ -19,6 +19,7 @@ served-so step options moments draws (Serves ring connections ending) served is 
     ending = ending;
     are = served.are;
     ended = served.ended;
+    whole = whole;
     server = refl;
     service = refl;
   },
@@ -26,14 +27,15 @@ served-so step options moments draws (Serves ring connections ending) served is 
   refl,
   refl,
 )
-served-so step options moments draws Unread served is = absurd is
-served-so step options moments draws (Refused line) served is = absurd is
-served-so step options moments draws Unbegun served is = absurd is
-served-so step options moments draws (Deaf ring) served is = absurd is
-served-so step options moments draws (Mute ring) served is = absurd is
+served-so step options moments draws Unread served whole is = absurd is
+served-so step options moments draws (Refused line) served whole is = absurd is
+served-so step options moments draws Unbegun served whole is = absurd is
+served-so step options moments draws (Shut ring) served whole is = absurd is
+served-so step options moments draws (Deaf ring) served whole is = absurd is
+served-so step options moments draws (Mute ring) served whole is = absurd is
 
 pub returns-clause-serves : goal.returns-clause-serves
-returns-clause-serves g c = λ step options moments draws course served is. served-so step options moments draws course served is
+returns-clause-serves g c = λ step options moments draws course served whole is. served-so step options moments draws course served whole is
 
 pub returns-clause-calls : goal.returns-clause-calls
 returns-clause-calls g c = λ options text calls ring keys around one due spelt found ran. (

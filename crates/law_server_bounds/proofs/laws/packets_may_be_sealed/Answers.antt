@@ -2,7 +2,7 @@ use Rattle.std.specs.Prelude.{ℕ, Bool}
 use Rattle.regs_service.specs.Served.{Step}
 use Rattle.server_rules.specs.Event.{Setting}
 use Rattle.server_rules.specs.Events.{Course, Event, after_event}
-use Rattle.law_server_sizes.specs.Small.{DrawsWords}
+use Rattle.law_server_bounds.specs.Small.{DrawsWords}
 use Rattle.law_server_bounds.specs.Steady.{IsFair, IsSteady}
 use Rattle.law_server_bounds.proofs.Ending.{Laws}
 use Rattle.law_server_bounds.proofs.Events.{Below, Goes, event-goes, event-sealable, event-steady}

@@ -36,7 +36,7 @@ use Rattle.law_server_moves.proofs.Gone.{has_run, has_spoken, has_ticked, none_a
 use Rattle.law_server_moves.proofs.Whole.{loss_of, lost_quietly, restart_of}
 use Rattle.law_server_moves.proofs.Growth.{AllFrom, all_itself, all_sent_from, attaches_grows, runs_from, speaks_from, ticks_from}
 use Rattle.law_server_moves.proofs.Fresh.{AreDistinct, IsBlank, distinct_back, distinct_of, drawn_for, some_back}
-use Rattle.law_server_sizes.specs.Small.{AreGivenTo, AreSmall, DrawsWords, GivesReplies, IsSmallState}
+use Rattle.law_server_bounds.specs.Small.{AreGivenTo, AreSmall, DrawsWords, GivesReplies, IsSmallState}
 use Rattle.law_server_moves.specs.Events.{with_lines}
 use Rattle.law_server_moves.specs.Sending.{IsFit}
 use Rattle.law_server_moves.proofs.Lists.{all_of}

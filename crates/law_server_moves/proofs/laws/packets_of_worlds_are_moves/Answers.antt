@@ -57,7 +57,7 @@ use Rattle.law_server_moves.proofs.Chosen.{itself_found, line_at, more_at, said_
 use Rattle.law_server_moves.proofs.Fresh.{AreDistinct, IsBlank, distinct_back, distinct_of, drawn_for, some_back}
 use Rattle.law_server_moves.proofs.Whole.{all_down, stands_after}
 use Rattle.law_server_moves.proofs.Served.{has_sent, spent_or}
-use Rattle.law_server_sizes.specs.Small.{AreSmall, DrawsWords, IsSmallEnvelope, IsSmallState}
+use Rattle.law_server_bounds.specs.Small.{AreSmall, DrawsWords, IsSmallEnvelope, IsSmallState}
 use Rattle.law_server_moves.specs.Sending.{IsFit}
 use Rattle.law_server_moves.proofs.Fitting.{fits_last}
 use Rattle.law_server_moves.proofs.Heard.{AreUnfailed, IsHeard, before_there, is_heard, made_there, none_found, none_kept}

@@ -2,7 +2,7 @@ use Rattle.std.proofs.Common.{map, inr, refl}
 use Rattle.std.specs.Prelude.{string_bytes}
 use Rattle.commands.specs.declared.command.Command.TheVariants as command
 use Rattle.statuses.specs.declared.status.Status.TheVariants as status
-use Rattle.mtp_app.proofs.Obeying.{calls, checks, helps, loads, pairs, reads-not, relays, serves, sims, stays-alone, stays-apart, tells-version}
+use Rattle.mtp_app.proofs.Obeying.{calls, checks, helps, loads, pairs, reads-not, relays, serves, sims, stays-alone, stays-apart, stays-unopened, tells-version}
 use Rattle.mtp_app.proofs.app.run.Goals as goal
 
 -- ---- a command was carried out
@@ -10,99 +10,117 @@ use Rattle.mtp_app.proofs.app.run.Goals as goal
 pub returns-in-Ok-clause-sim : goal.returns-in-Ok-clause-sim
 returns-in-Ok-clause-sim g c = λ wire asked.
     sims
+    (record { step = g.D.Draw.step; standing_at = g.D.Seeded.standing_at; place_of = g.D.Seeded.place_of })
     (record { told = g.S.Source.left; faults = g.S.Source.faults; before = c.args.input.now; after = c.obey.new.input })
     (record { told = g.O.Sink.written; faults = g.O.Sink.faults; before = c.args.out.now; after = c.obey.new.out })
     (record { told = g.F.KeyFiles.told; faults = g.F.KeyFiles.faults; before = c.args.files.now; after = c.obey.new.files })
     (record { calls = g.N.Net.calls; room = g.N.Net.room; faults = g.N.Net.faults; given = g.C.Clock.given; step = g.D.Draw.step; net = c.args.net.now; net_then = c.obey.new.net; clock = c.args.clock.now; clock_then = c.obey.new.clock; draw = c.args.draw.now; draw_then = c.obey.new.draw })
     (record { calls = g.P.Spawner.calls; faults = g.P.Spawner.faults; before = c.args.kids.now; after = c.obey.new.kids })
+    (record { told = g.K.Disks.told; faults = g.K.Disks.faults; before = c.args.disks.now; after = c.obey.new.disks })
     c.number.result c.obey.result c.in-Ok.command c.number.ensures c.obey.ensures.obeys wire
     (c.one_reading.ensures (map string_bytes c.args.words.now) c.in-Ok.command (command.Sim wire) c.in-Ok.ensures.said asked)
 
 pub returns-in-Ok-clause-load : goal.returns-in-Ok-clause-load
 returns-in-Ok-clause-load g c = λ count asked.
     loads
+    (record { step = g.D.Draw.step; standing_at = g.D.Seeded.standing_at; place_of = g.D.Seeded.place_of })
     (record { told = g.S.Source.left; faults = g.S.Source.faults; before = c.args.input.now; after = c.obey.new.input })
     (record { told = g.O.Sink.written; faults = g.O.Sink.faults; before = c.args.out.now; after = c.obey.new.out })
     (record { told = g.F.KeyFiles.told; faults = g.F.KeyFiles.faults; before = c.args.files.now; after = c.obey.new.files })
     (record { calls = g.N.Net.calls; room = g.N.Net.room; faults = g.N.Net.faults; given = g.C.Clock.given; step = g.D.Draw.step; net = c.args.net.now; net_then = c.obey.new.net; clock = c.args.clock.now; clock_then = c.obey.new.clock; draw = c.args.draw.now; draw_then = c.obey.new.draw })
     (record { calls = g.P.Spawner.calls; faults = g.P.Spawner.faults; before = c.args.kids.now; after = c.obey.new.kids })
+    (record { told = g.K.Disks.told; faults = g.K.Disks.faults; before = c.args.disks.now; after = c.obey.new.disks })
     c.number.result c.obey.result c.in-Ok.command c.number.ensures c.obey.ensures.obeys count
     (c.one_reading.ensures (map string_bytes c.args.words.now) c.in-Ok.command (command.Load count) c.in-Ok.ensures.said asked)
 
 pub returns-in-Ok-clause-serve : goal.returns-in-Ok-clause-serve
 returns-in-Ok-clause-serve g c = λ options asked.
     serves
+    (record { step = g.D.Draw.step; standing_at = g.D.Seeded.standing_at; place_of = g.D.Seeded.place_of })
     (record { told = g.S.Source.left; faults = g.S.Source.faults; before = c.args.input.now; after = c.obey.new.input })
     (record { told = g.O.Sink.written; faults = g.O.Sink.faults; before = c.args.out.now; after = c.obey.new.out })
     (record { told = g.F.KeyFiles.told; faults = g.F.KeyFiles.faults; before = c.args.files.now; after = c.obey.new.files })
     (record { calls = g.N.Net.calls; room = g.N.Net.room; faults = g.N.Net.faults; given = g.C.Clock.given; step = g.D.Draw.step; net = c.args.net.now; net_then = c.obey.new.net; clock = c.args.clock.now; clock_then = c.obey.new.clock; draw = c.args.draw.now; draw_then = c.obey.new.draw })
     (record { calls = g.P.Spawner.calls; faults = g.P.Spawner.faults; before = c.args.kids.now; after = c.obey.new.kids })
+    (record { told = g.K.Disks.told; faults = g.K.Disks.faults; before = c.args.disks.now; after = c.obey.new.disks })
     c.number.result c.obey.result c.in-Ok.command c.number.ensures c.obey.ensures.obeys options
     (c.one_reading.ensures (map string_bytes c.args.words.now) c.in-Ok.command (command.Serve options) c.in-Ok.ensures.said asked)
 
 pub returns-in-Ok-clause-call : goal.returns-in-Ok-clause-call
 returns-in-Ok-clause-call g c = λ options asked.
     calls
+    (record { step = g.D.Draw.step; standing_at = g.D.Seeded.standing_at; place_of = g.D.Seeded.place_of })
     (record { told = g.S.Source.left; faults = g.S.Source.faults; before = c.args.input.now; after = c.obey.new.input })
     (record { told = g.O.Sink.written; faults = g.O.Sink.faults; before = c.args.out.now; after = c.obey.new.out })
     (record { told = g.F.KeyFiles.told; faults = g.F.KeyFiles.faults; before = c.args.files.now; after = c.obey.new.files })
     (record { calls = g.N.Net.calls; room = g.N.Net.room; faults = g.N.Net.faults; given = g.C.Clock.given; step = g.D.Draw.step; net = c.args.net.now; net_then = c.obey.new.net; clock = c.args.clock.now; clock_then = c.obey.new.clock; draw = c.args.draw.now; draw_then = c.obey.new.draw })
     (record { calls = g.P.Spawner.calls; faults = g.P.Spawner.faults; before = c.args.kids.now; after = c.obey.new.kids })
+    (record { told = g.K.Disks.told; faults = g.K.Disks.faults; before = c.args.disks.now; after = c.obey.new.disks })
     c.number.result c.obey.result c.in-Ok.command c.number.ensures c.obey.ensures.obeys options
     (c.one_reading.ensures (map string_bytes c.args.words.now) c.in-Ok.command (command.Call options) c.in-Ok.ensures.said asked)
 
 pub returns-in-Ok-clause-pair : goal.returns-in-Ok-clause-pair
 returns-in-Ok-clause-pair g c = λ options asked.
     pairs
+    (record { step = g.D.Draw.step; standing_at = g.D.Seeded.standing_at; place_of = g.D.Seeded.place_of })
     (record { told = g.S.Source.left; faults = g.S.Source.faults; before = c.args.input.now; after = c.obey.new.input })
     (record { told = g.O.Sink.written; faults = g.O.Sink.faults; before = c.args.out.now; after = c.obey.new.out })
     (record { told = g.F.KeyFiles.told; faults = g.F.KeyFiles.faults; before = c.args.files.now; after = c.obey.new.files })
     (record { calls = g.N.Net.calls; room = g.N.Net.room; faults = g.N.Net.faults; given = g.C.Clock.given; step = g.D.Draw.step; net = c.args.net.now; net_then = c.obey.new.net; clock = c.args.clock.now; clock_then = c.obey.new.clock; draw = c.args.draw.now; draw_then = c.obey.new.draw })
     (record { calls = g.P.Spawner.calls; faults = g.P.Spawner.faults; before = c.args.kids.now; after = c.obey.new.kids })
+    (record { told = g.K.Disks.told; faults = g.K.Disks.faults; before = c.args.disks.now; after = c.obey.new.disks })
     c.number.result c.obey.result c.in-Ok.command c.number.ensures c.obey.ensures.obeys options
     (c.one_reading.ensures (map string_bytes c.args.words.now) c.in-Ok.command (command.Pair options) c.in-Ok.ensures.said asked)
 
 pub returns-in-Ok-clause-check : goal.returns-in-Ok-clause-check
 returns-in-Ok-clause-check g c = λ asked.
     checks
+    (record { step = g.D.Draw.step; standing_at = g.D.Seeded.standing_at; place_of = g.D.Seeded.place_of })
     (record { told = g.S.Source.left; faults = g.S.Source.faults; before = c.args.input.now; after = c.obey.new.input })
     (record { told = g.O.Sink.written; faults = g.O.Sink.faults; before = c.args.out.now; after = c.obey.new.out })
     (record { told = g.F.KeyFiles.told; faults = g.F.KeyFiles.faults; before = c.args.files.now; after = c.obey.new.files })
     (record { calls = g.N.Net.calls; room = g.N.Net.room; faults = g.N.Net.faults; given = g.C.Clock.given; step = g.D.Draw.step; net = c.args.net.now; net_then = c.obey.new.net; clock = c.args.clock.now; clock_then = c.obey.new.clock; draw = c.args.draw.now; draw_then = c.obey.new.draw })
     (record { calls = g.P.Spawner.calls; faults = g.P.Spawner.faults; before = c.args.kids.now; after = c.obey.new.kids })
+    (record { told = g.K.Disks.told; faults = g.K.Disks.faults; before = c.args.disks.now; after = c.obey.new.disks })
     c.number.result c.obey.result c.in-Ok.command c.number.ensures c.obey.ensures.obeys
     (c.one_reading.ensures (map string_bytes c.args.words.now) c.in-Ok.command command.Check c.in-Ok.ensures.said asked)
 
 pub returns-in-Ok-clause-relay : goal.returns-in-Ok-clause-relay
 returns-in-Ok-clause-relay g c = λ options asked.
     relays
+    (record { step = g.D.Draw.step; standing_at = g.D.Seeded.standing_at; place_of = g.D.Seeded.place_of })
     (record { told = g.S.Source.left; faults = g.S.Source.faults; before = c.args.input.now; after = c.obey.new.input })
     (record { told = g.O.Sink.written; faults = g.O.Sink.faults; before = c.args.out.now; after = c.obey.new.out })
     (record { told = g.F.KeyFiles.told; faults = g.F.KeyFiles.faults; before = c.args.files.now; after = c.obey.new.files })
     (record { calls = g.N.Net.calls; room = g.N.Net.room; faults = g.N.Net.faults; given = g.C.Clock.given; step = g.D.Draw.step; net = c.args.net.now; net_then = c.obey.new.net; clock = c.args.clock.now; clock_then = c.obey.new.clock; draw = c.args.draw.now; draw_then = c.obey.new.draw })
     (record { calls = g.P.Spawner.calls; faults = g.P.Spawner.faults; before = c.args.kids.now; after = c.obey.new.kids })
+    (record { told = g.K.Disks.told; faults = g.K.Disks.faults; before = c.args.disks.now; after = c.obey.new.disks })
     c.number.result c.obey.result c.in-Ok.command c.number.ensures c.obey.ensures.obeys options
     (c.one_reading.ensures (map string_bytes c.args.words.now) c.in-Ok.command (command.Relay options) c.in-Ok.ensures.said asked)
 
 pub returns-in-Ok-clause-help : goal.returns-in-Ok-clause-help
 returns-in-Ok-clause-help g c = λ page asked.
     helps
+    (record { step = g.D.Draw.step; standing_at = g.D.Seeded.standing_at; place_of = g.D.Seeded.place_of })
     (record { told = g.S.Source.left; faults = g.S.Source.faults; before = c.args.input.now; after = c.obey.new.input })
     (record { told = g.O.Sink.written; faults = g.O.Sink.faults; before = c.args.out.now; after = c.obey.new.out })
     (record { told = g.F.KeyFiles.told; faults = g.F.KeyFiles.faults; before = c.args.files.now; after = c.obey.new.files })
     (record { calls = g.N.Net.calls; room = g.N.Net.room; faults = g.N.Net.faults; given = g.C.Clock.given; step = g.D.Draw.step; net = c.args.net.now; net_then = c.obey.new.net; clock = c.args.clock.now; clock_then = c.obey.new.clock; draw = c.args.draw.now; draw_then = c.obey.new.draw })
     (record { calls = g.P.Spawner.calls; faults = g.P.Spawner.faults; before = c.args.kids.now; after = c.obey.new.kids })
+    (record { told = g.K.Disks.told; faults = g.K.Disks.faults; before = c.args.disks.now; after = c.obey.new.disks })
     c.number.result c.obey.result c.in-Ok.command c.number.ensures c.obey.ensures.obeys page
     (c.one_reading.ensures (map string_bytes c.args.words.now) c.in-Ok.command (command.Help page) c.in-Ok.ensures.said asked)
 
 pub returns-in-Ok-clause-version : goal.returns-in-Ok-clause-version
 returns-in-Ok-clause-version g c = λ asked.
     tells-version
+    (record { step = g.D.Draw.step; standing_at = g.D.Seeded.standing_at; place_of = g.D.Seeded.place_of })
     (record { told = g.S.Source.left; faults = g.S.Source.faults; before = c.args.input.now; after = c.obey.new.input })
     (record { told = g.O.Sink.written; faults = g.O.Sink.faults; before = c.args.out.now; after = c.obey.new.out })
     (record { told = g.F.KeyFiles.told; faults = g.F.KeyFiles.faults; before = c.args.files.now; after = c.obey.new.files })
     (record { calls = g.N.Net.calls; room = g.N.Net.room; faults = g.N.Net.faults; given = g.C.Clock.given; step = g.D.Draw.step; net = c.args.net.now; net_then = c.obey.new.net; clock = c.args.clock.now; clock_then = c.obey.new.clock; draw = c.args.draw.now; draw_then = c.obey.new.draw })
     (record { calls = g.P.Spawner.calls; faults = g.P.Spawner.faults; before = c.args.kids.now; after = c.obey.new.kids })
+    (record { told = g.K.Disks.told; faults = g.K.Disks.faults; before = c.args.disks.now; after = c.obey.new.disks })
     c.number.result c.obey.result c.in-Ok.command c.number.ensures c.obey.ensures.obeys
     (c.one_reading.ensures (map string_bytes c.args.words.now) c.in-Ok.command command.Version c.in-Ok.ensures.said asked)
 
@@ -116,6 +134,7 @@ returns-in-Ok-clause-unread g c = λ not.
     (record { told = g.F.KeyFiles.told; faults = g.F.KeyFiles.faults; before = c.args.files.now; after = c.obey.new.files })
     (record { calls = g.N.Net.calls; room = g.N.Net.room; faults = g.N.Net.faults; given = g.C.Clock.given; step = g.D.Draw.step; net = c.args.net.now; net_then = c.obey.new.net; clock = c.args.clock.now; clock_then = c.obey.new.clock; draw = c.args.draw.now; draw_then = c.obey.new.draw })
     (record { calls = g.P.Spawner.calls; faults = g.P.Spawner.faults; before = c.args.kids.now; after = c.obey.new.kids })
+    (record { told = g.K.Disks.told; faults = g.K.Disks.faults; before = c.args.disks.now; after = c.obey.new.disks })
     (map string_bytes c.args.words.now) c.in-Ok.command c.in-Ok.ensures.said c.obey.ensures.stays not
 
 pub returns-in-Ok-clause-offline : goal.returns-in-Ok-clause-offline
@@ -126,6 +145,7 @@ returns-in-Ok-clause-offline g c = λ not.
     (record { told = g.F.KeyFiles.told; faults = g.F.KeyFiles.faults; before = c.args.files.now; after = c.obey.new.files })
     (record { calls = g.N.Net.calls; room = g.N.Net.room; faults = g.N.Net.faults; given = g.C.Clock.given; step = g.D.Draw.step; net = c.args.net.now; net_then = c.obey.new.net; clock = c.args.clock.now; clock_then = c.obey.new.clock; draw = c.args.draw.now; draw_then = c.obey.new.draw })
     (record { calls = g.P.Spawner.calls; faults = g.P.Spawner.faults; before = c.args.kids.now; after = c.obey.new.kids })
+    (record { told = g.K.Disks.told; faults = g.K.Disks.faults; before = c.args.disks.now; after = c.obey.new.disks })
     (map string_bytes c.args.words.now) c.in-Ok.command c.in-Ok.ensures.said c.obey.ensures.stays not in
     (apart.files_stay, apart.idle.offline.net, apart.idle.offline.clock, apart.idle.draw)
 
@@ -136,6 +156,17 @@ returns-in-Ok-clause-alone g c = λ not.
     (record { told = g.F.KeyFiles.told; faults = g.F.KeyFiles.faults; before = c.args.files.now; after = c.obey.new.files })
     (record { calls = g.N.Net.calls; room = g.N.Net.room; faults = g.N.Net.faults; given = g.C.Clock.given; step = g.D.Draw.step; net = c.args.net.now; net_then = c.obey.new.net; clock = c.args.clock.now; clock_then = c.obey.new.clock; draw = c.args.draw.now; draw_then = c.obey.new.draw })
     (record { calls = g.P.Spawner.calls; faults = g.P.Spawner.faults; before = c.args.kids.now; after = c.obey.new.kids })
+    (record { told = g.K.Disks.told; faults = g.K.Disks.faults; before = c.args.disks.now; after = c.obey.new.disks })
+    (map string_bytes c.args.words.now) c.in-Ok.command c.in-Ok.ensures.said c.obey.ensures.stays not
+
+pub returns-in-Ok-clause-unopened : goal.returns-in-Ok-clause-unopened
+returns-in-Ok-clause-unopened g c = λ not.
+    stays-unopened
+    (record { told = g.S.Source.left; faults = g.S.Source.faults; before = c.args.input.now; after = c.obey.new.input })
+    (record { told = g.F.KeyFiles.told; faults = g.F.KeyFiles.faults; before = c.args.files.now; after = c.obey.new.files })
+    (record { calls = g.N.Net.calls; room = g.N.Net.room; faults = g.N.Net.faults; given = g.C.Clock.given; step = g.D.Draw.step; net = c.args.net.now; net_then = c.obey.new.net; clock = c.args.clock.now; clock_then = c.obey.new.clock; draw = c.args.draw.now; draw_then = c.obey.new.draw })
+    (record { calls = g.P.Spawner.calls; faults = g.P.Spawner.faults; before = c.args.kids.now; after = c.obey.new.kids })
+    (record { told = g.K.Disks.told; faults = g.K.Disks.faults; before = c.args.disks.now; after = c.obey.new.disks })
     (map string_bytes c.args.words.now) c.in-Ok.command c.in-Ok.ensures.said c.obey.ensures.stays not
 
 -- ---- the words say no command
@@ -179,11 +210,14 @@ pub returns-in-Err-Memory-clause-serve : goal.returns-in-Err-Memory-clause-serve
 returns-in-Err-Memory-clause-serve g c = λ options asked. (
   status.Memory,
   c.number-in-Err-Memory.ensures,
-  inr (record {
-    said = refl;
-    unwritten = refl;
-    apart = record { files_stay = refl; idle = record { offline = record { net = refl; clock = refl }; draw = refl } };
-  }),
+  inr (
+    record {
+      said = refl;
+      unwritten = refl;
+      apart = record { files_stay = refl; idle = record { offline = record { net = refl; clock = refl }; draw = refl } };
+    },
+    refl,
+  ),
 )
 
 pub returns-in-Err-Memory-clause-call : goal.returns-in-Err-Memory-clause-call

@@ -1,4 +1,4 @@
-use Rattle.std.proofs.Common.{◌≡◌, ◌∙◌, ◌+◌, ◌≤◌, Some, None, length, ap, sym, subst, refl, arith}
+use Rattle.std.proofs.Common.{◌≡◌, ◌∙◌, ◌+◌, ◌*◌, ◌≤◌, Some, None, length, ap, sym, subst, refl, arith}
 use Rattle.waits.specs.Held.{Held}
 use Rattle.waits.specs.declared.job.Job.{Job}
 use Rattle.waits.specs.Jobs.{Queue, first_job, has_failed, without_first}
@@ -9,7 +9,7 @@ use Rattle.server_core.specs.One.{fails_all}
 use Rattle.server_core.specs.Failures.{blocked_of}
 use Rattle.server_core.proofs.Blocked.{none-blocked, none-fails, none-taken}
 use Rattle.server_core.proofs.Steps.{after-some, spends-more, taken}
-use Rattle.server_core.proofs.Uses.{nothing-used, used, uses-more}
+use Rattle.server_core.proofs.Uses.{nothing-used, used, uses-both, uses-more}
 use Rattle.server_core.proofs.failures.answers_failed.Goals as goal
 
 pub loop-place-init : goal.loop-place-init
@@ -110,3 +110,13 @@ returns-clause-fewer g c = λ keys bindings draw name others past speaker speaks
     let fewer = final.left in
     let is : blocked_of name c.loop-place.jobs.jobs ≡ blocked_of name final.speaker.jobs = ap (blocked_of name) final.speaks.jobs in
     omega arith
+
+pub returns-clause-uses : goal.returns-clause-uses
+returns-clause-uses g c = λ called.
+    let limit = c.args.limit in
+    let place = c.loop-place.place in
+    let over = c.loop-place-test.false in
+    let within = c.loop-place.auto.place-end in
+    uses-both called c.args.now place (place * 48) place place 0 0 0 0 limit (limit * 48) limit limit
+    c.args.standing.now c.args.turn.now c.loop-place.standing c.loop-place.turn c.loop-place.standing c.loop-place.turn
+    (c.loop-place.invariant.uses called) (nothing-used called c.args.now c.loop-place.standing c.loop-place.turn) (omega arith) (omega arith) (omega arith) (omega arith)

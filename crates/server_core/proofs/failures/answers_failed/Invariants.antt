@@ -1,9 +1,10 @@
 use Rattle.std.proofs.Common.{◌≡◌, ◌≤◌, ◌+◌, ◌*◌, Bool, List}
 use Rattle.id_window.specs.History.{History}
+use Rattle.outbox.specs.declared.kept.Kept.{Kept}
 use Rattle.waits.specs.Jobs.{Queue}
 use Rattle.server_rules.specs.Server.{Binding, Name}
 use Rattle.server_rules.specs.Event.{Speaker}
-use Rattle.server_answers.specs.Contents.{short_bytes_max}
+use Rattle.server_dispatch.specs.Contents.{short_bytes_max}
 use Rattle.server_output.specs.Items.{result_bytes}
 use Rattle.server_session.specs.SessionState.{replies_left}
 use Rattle.server_session.specs.Says.{Keys, setting_of}
@@ -19,7 +20,7 @@ invariant-loop-place g l = record {
       → Speaks l.now l.fn.standing l.fn.turn l.fn.jobs.jobs bindings draw start → HasFailures name others past start
       → SoFar l.now (setting_of l.now g.D.Draw.step keys) bindings draw name others past start l.place l.standing l.turn l.jobs.jobs;
   spends : Spends l.now l.place (l.place * result_bytes short_bytes_max) l.place l.fn.standing l.fn.turn l.standing l.turn;
-  uses : (again : Bool) → Uses again l.now l.place (l.place * result_bytes short_bytes_max) l.place l.place l.fn.standing l.fn.turn l.standing l.turn;
+  uses : (called : Kept → Bool) → Uses called l.now l.place (l.place * result_bytes short_bytes_max) l.place l.place l.fn.standing l.fn.turn l.standing l.turn;
   replies : replies_left l.fn.standing ≤ replies_left l.standing + l.place;
   same_job_room : l.jobs.room ≡ l.fn.jobs.room;
 }

@@ -5,7 +5,7 @@ use Rattle.std.specs.Prelude.{IsSome}
 use Rattle.id_window.specs.History.{History}
 use Rattle.inbox.specs.declared.judged.Judgement.{Judgement}
 use Rattle.server_output.specs.Dues.{Dues}
-use Rattle.server_dispatch.specs.declared.action.Action.{Action}
+use Rattle.server_dispatch.specs.declared.dues.Due.{Due}
 use Rattle.server_dispatch.specs.Entries.{Held}
 use Rattle.server_dispatch.specs.Rings.{AreOf}
 use Rattle.server_rules.specs.Answer.{name_in, opens}
@@ -17,7 +17,8 @@ use Rattle.server_core.specs.Among.{Among, remembers_among, speaks_among, takes_
 use Rattle.server_core.specs.Packets.{bodies_of, history_of, judged_of}
 use Rattle.server_core.specs.Room.{turn_in}
 use Rattle.server_core.specs.Settling.{SpeaksAmong}
-use Rattle.server_core.specs.SettlingAll.{AreDue, all_settled, some_repeats}
+use Rattle.server_core.specs.SettlingAll.{AreDue, all_settled, are_numbered, calls_of}
+use Rattle.server_core.proofs.AllSettled.{judged-calls}
 use Rattle.server_core.proofs.Attached.{own-rest}
 use Rattle.server_core.proofs.Names.{name-by}
 use Rattle.server_core.proofs.Ordered.{KeepsOrder}
@@ -27,7 +28,7 @@ use Rattle.server_core.proofs.packet_answers.takes.Goals as goal
 
 pub opens-requires : goal.opens-requires
 opens-requires g c =
-    let long = ap (λ (dues : List Action). length dues) c.as_slice.ensures.value in
+    let long = ap (λ (dues : List Due). length dues) c.as_slice.ensures.value in
     let acks_long = ap (λ (acks : List ℕ). length acks) c.as_slice-2.ensures.value in
     let acks = length c.as_slice-2.result.now in
     let standing = c.args.standing.now in
@@ -41,7 +42,7 @@ opens-requires g c =
 
 pub settles_all-requires : goal.settles_all-requires
 settles_all-requires g c =
-    let long = ap (λ (dues : List Action). length dues) c.as_slice.ensures.value in
+    let long = ap (λ (dues : List Due). length dues) c.as_slice.ensures.value in
     let acks_long = ap (λ (acks : List ℕ). length acks) c.as_slice-2.ensures.value in
     let acks = length c.as_slice-2.result.now in
     let standing = c.args.standing.now in
@@ -49,11 +50,11 @@ settles_all-requires g c =
     let judged = c.in_room-judged.result.now in
     let enough : length judged ≤ length room.dues.items = omega (arith, c.in_room-judged.ensures.few, long) in
     let few : acks ≤ length room.dues.items = omega (arith, enough, c.acks_in.ensures.few, acks_long) in
-    let R : List Action → Type 0 = λ dues. some_repeats judged dues ≡ true → room.again ≡ true in
-    let asked = subst R c.as_slice.ensures.value c.in_room-judged.ensures.again in
+    let N : List Due → Type 0 = λ dues. are_numbered judged dues ≡ true in
+    let asked = judged-calls judged room.dues.items (subst N c.as_slice.ensures.value c.in_room-judged.ensures.numbered) in
     record {
       enough = enough;
-      room = settling-room (some_repeats judged room.dues.items) c.args.now acks standing c.opens.new.standing c.args.jobs.now.room c.args.bindings.now.room room c.opens.new.self
+      room = settling-room (calls_of judged room.dues.items) c.args.now acks standing c.opens.new.standing c.args.jobs.now.room c.args.bindings.now.room room c.opens.new.self
           c.requires.room few c.requires.speaking.numbers asked c.opens.ensures.spends c.opens.ensures.unsaid c.opens.ensures.same_replies;
       job_room = omega (arith, enough, c.requires.room.jobs);
       binding_room = omega (arith, enough, c.requires.room.bindings);
@@ -65,9 +66,9 @@ sends-out-requires g c =
     let acks = length c.as_slice-2.result.now in
     let standing = c.args.standing.now in
     let room = c.args.room in
-    let repeats = some_repeats c.in_room-judged.result.now room.dues.items in
-    let can = sending-room repeats c.args.now acks _ _ _ standing c.opens.new.standing c.settles_all.new.standing c.args.jobs.now.room c.args.bindings.now.room room
-    c.opens.new.self c.settles_all.new.turn c.requires.room c.requires.speaking.numbers c.opens.ensures.spends (c.settles_all.ensures.uses repeats (λ is. is)) in
+    let calls = calls_of c.in_room-judged.result.now room.dues.items in
+    let can = sending-room calls c.args.now acks _ _ _ standing c.opens.new.standing c.settles_all.new.standing c.args.jobs.now.room c.args.bindings.now.room room
+    c.opens.new.self c.settles_all.new.turn c.requires.room c.requires.speaking.numbers c.opens.ensures.spends (c.settles_all.ensures.uses calls (λ kept is. is)) in
     let K : ℕ → Type 0 = λ key. IsSome (entry_of key (g.S.Seal.keys c.args.seal.now)) in
     record {
       few = can.few;
@@ -83,9 +84,9 @@ pub returns-clause-same_name : goal.returns-clause-same_name
 returns-clause-same_name g c =
     let acks = length c.as_slice-2.result.now in
     let room = c.args.room in
-    let repeats = some_repeats c.in_room-judged.result.now room.dues.items in
-    let can = sending-room repeats c.args.now acks _ _ _ c.args.standing.now c.opens.new.standing c.settles_all.new.standing c.args.jobs.now.room c.args.bindings.now.room room
-    c.opens.new.self c.settles_all.new.turn c.requires.room c.requires.speaking.numbers c.opens.ensures.spends (c.settles_all.ensures.uses repeats (λ is. is)) in
+    let calls = calls_of c.in_room-judged.result.now room.dues.items in
+    let can = sending-room calls c.args.now acks _ _ _ c.args.standing.now c.opens.new.standing c.settles_all.new.standing c.args.jobs.now.room c.args.bindings.now.room room
+    c.opens.new.self c.settles_all.new.turn c.requires.room c.requires.speaking.numbers c.opens.ensures.spends (c.settles_all.ensures.uses calls (λ kept is. is)) in
     c.sends-out.ensures.same_name ∙ name-by (name_kept c.settles_all.new.standing) (name_kept c.args.standing.now) can.key can.number
 
 pub returns-clause-ends : goal.returns-clause-ends
@@ -115,9 +116,9 @@ returns-clause-ends g c = λ keys envelope among of has fits.
     let judged : List Judgement = c.in_room-judged.result.now in
     let due_long = due-few c.args.judged.now bodies room.dues.items fits.due in
     let dues_are : c.as_slice.result.now ≡ room.dues.items = c.as_slice.ensures.value in
-    let L : List Action → Type 0 = λ dues. length c.args.judged.now ≤ length dues in
-    let R : List Action → Type 0 = λ dues. some_repeats c.args.judged.now dues ≡ true → room.again ≡ true in
-    let same : judged ≡ c.args.judged.now = c.in_room-judged.ensures.all (subst L (sym dues_are) due_long) (subst R (sym dues_are) fits.again) in
+    let L : List Due → Type 0 = λ dues. length c.args.judged.now ≤ length dues in
+    let R : List Due → Type 0 = λ dues. are_numbered c.args.judged.now dues ≡ true in
+    let same : judged ≡ c.args.judged.now = c.in_room-judged.ensures.all (subst L (sym dues_are) due_long) (subst R (sym dues_are) fits.numbered) in
     let is : judged ≡ judged_of setting envelope session = same ∙ has.are in
     let due : AreDue judged bodies room.dues.items = subst (λ (judged : List Judgement). AreDue judged bodies room.dues.items) (sym same) fits.due in
     let long : length judged ≡ length c.args.judged.now = ap (λ (judged : List Judgement). length judged) same in

@@ -1,13 +1,10 @@
-use Rattle.std.proofs.Common.{◌≡◌, ◌∙◌, ℕ, true, List, length, ap, sym, subst}
+use Rattle.std.proofs.Common.{◌≡◌, ◌∙◌, ℕ, length, ap, sym, subst}
 use Rattle.std.specs.Prelude.{min}
-use Rattle.inbox.specs.declared.judged.Judgement.{Judgement}
-use Rattle.inbox.specs.Refusals.{InEnvelope}
 use Rattle.server_rules.specs.Server.{Session}
 use Rattle.server_session.specs.declared.session.SessionState.{SessionState}
 use Rattle.server_session.specs.Rooms.{with_replies_left}
 use Rattle.server_session.specs.SessionState.{Stands, replies_left}
 use Rattle.server_core.specs.Room.{settling_messages}
-use Rattle.server_core.specs.SettlingAll.{some_repeats}
 use Rattle.server_core.proofs.Rooms.{given-back, stands-with}
 use Rattle.server_core.proofs.room.judges_in_room.Goals as goal
 
@@ -15,14 +12,6 @@ use Rattle.server_core.proofs.room.judges_in_room.Goals as goal
 with-room : (room now : ℕ) (standing after : SessionState) (session : Session) → after ≡ with_replies_left room standing → Stands now standing session → Stands now after session
 with-room room now standing after session kept stands =
     subst (λ (one : SessionState). Stands now one session) (sym kept) (stands-with room now standing session stands)
-
-pub returns-in-Ok-clause-again : goal.returns-in-Ok-clause-again
-returns-in-Ok-clause-again c = λ session stands said.
-    let now = c.args.now in
-    let room = c.in_ok-room.room in
-    let P : List Judgement → Type 0 = λ judged. some_repeats judged room.dues.items ≡ true in
-    let reserved = with-room _ now c.args.standing.now c.takes_room.new.standing session c.in_ok-room.ensures.kept stands in
-    c.in_ok-room.ensures.again now session (InEnvelope now session.salts c.args.outer.now.salt) stands (subst P (c.in-Ok.ensures.judged session reserved) said)
 
 pub returns-in-Ok-clause-stands : goal.returns-in-Ok-clause-stands
 returns-in-Ok-clause-stands c = λ session queue stands orderly.

@@ -1,4 +1,7 @@
-use Rattle.std.proofs.Common.{◌∙◌, sym, subst}
+use Rattle.std.proofs.Common.{◌∙◌, ap, sym, subst, arith}
+use Rattle.outbox.specs.Replies.{Contents}
+use Rattle.server_output.specs.Items.{destroyed_bytes}
+use Rattle.server_dispatch.specs.Action.{due_bytes}
 use Rattle.server_rules.specs.Event.{Setting}
 use Rattle.law_server.specs.Order.{jobs_of}
 use Rattle.server_session.specs.Says.{setting_of}
@@ -8,6 +11,7 @@ use Rattle.server_core.specs.Settling.{SpeaksAmong}
 use Rattle.server_core.proofs.Left.{left-all, left-without}
 use Rattle.server_core.proofs.Names.{named}
 use Rattle.server_core.proofs.RowCases.{row-destroys, row-speaks}
+use Rattle.server_core.proofs.Uses.{nothing-used, used, uses-both}
 use Rattle.server_core.proofs.settling.row.Goals as goal
 
 pub returns-in-Destroys-clause-owed : goal.returns-in-Destroys-clause-owed
@@ -45,3 +49,12 @@ returns-in_default g c =
 pub returns-in-Destroys-clause-left : goal.returns-in-Destroys-clause-left
 returns-in-Destroys-clause-left g c =
     left-without (named (key_of c.args.standing.now) c.in-Destroys.destroyed) c.args.others.now c.destroys.new.others c.destroys.ensures.others
+
+pub returns-in-Destroys-clause-uses : goal.returns-in-Destroys-clause-uses
+returns-in-Destroys-clause-uses g c = λ called calls.
+    let size = ap due_bytes c.in-Destroys.is in
+    let left = ap (λ (outbox : Contents). outbox.room) c.destroys.ensures.same_replies in
+    uses-both called c.args.now 1 destroyed_bytes 0 0 0 0 0 0 2 (due_bytes c.args.due) 1 2
+    c.args.standing.now c.args.turn.now c.destroys.new.standing c.destroys.new.turn c.destroys.new.standing c.destroys.new.turn
+    (used called c.args.now 1 destroyed_bytes 0 0 c.args.standing.now c.args.turn.now c.destroys.new.standing c.destroys.new.turn c.destroys.ensures.spends c.destroys.ensures.unsaid (omega arith))
+    (nothing-used called c.args.now c.destroys.new.standing c.destroys.new.turn) (omega arith) (omega (arith, size)) (omega arith) (omega arith)

@@ -1,4 +1,4 @@
-use Rattle.std.proofs.Common.{arith}
+use Rattle.std.proofs.Common.{◌+◌, ◌*◌, arith}
 use Rattle.server_rules.specs.Event.{Setting}
 use Rattle.server_rules.specs.Server.{Name}
 use Rattle.server_rules.specs.Waiting.{tells_of}
@@ -7,6 +7,8 @@ use Rattle.server_session.specs.Says.{setting_of}
 use Rattle.server_core.specs.Among.{Among, row_among}
 use Rattle.server_core.proofs.Ordered.{KeepsOrder}
 use Rattle.server_core.proofs.Settled.{is-rowed, told-speaks}
+use Rattle.server_dispatch.specs.Action.{due_bytes, due_calls}
+use Rattle.server_core.proofs.Uses.{uses-both}
 use Rattle.server_core.proofs.settling.settles.Goals as goal
 
 pub returns-clause-settled : goal.returns-clause-settled
@@ -72,3 +74,27 @@ returns-clause-fewer g c = λ keys name past seq verdict body opened among are d
     let blocked = done.few in
     let fewer = c.answers_failed.ensures.fewer keys bindings draw name others past (tells_of number rowed.speaker) told done.has in
     omega arith
+
+pub answers_failed-requires-clause-room : goal.answers_failed-requires-clause-room
+answers_failed-requires-clause-room g c =
+    let room = c.requires.room in
+    let uses = c.row.ensures.uses (due_calls c.args.number c.args.due) (λ kept is. is) in
+    record {
+      places = omega (arith, uses.places, room.places);
+      bytes = omega (arith, uses.bytes, room.bytes);
+      numbers = omega (arith, uses.numbers, room.numbers);
+      entries = omega (arith, uses.entries, room.entries);
+    }
+
+pub answers_failed-requires-clause-replies : goal.answers_failed-requires-clause-replies
+answers_failed-requires-clause-replies g c =
+    let uses = c.row.ensures.uses (due_calls c.args.number c.args.due) (λ kept is. is) in
+    omega (arith, uses.replies, c.requires.room.replies)
+
+pub returns-clause-uses : goal.returns-clause-uses
+returns-clause-uses g c = λ called calls.
+    let due = c.args.due in
+    let many = c.answers_failed.result in
+    uses-both called c.args.now 2 (due_bytes due) 1 2 many (many * 48) many many (2 + many) (due_bytes due + many * 48) (1 + many) (2 + many)
+    c.args.standing.now c.args.turn.now c.row.new.standing c.row.new.turn c.answers_failed.new.standing c.answers_failed.new.turn
+    (c.row.ensures.uses called calls) (c.answers_failed.ensures.uses called) (omega arith) (omega arith) (omega arith) (omega arith)

@@ -5,9 +5,9 @@ use Rattle.std.specs.Vec.Iter.{into_iter_items}
 use Rattle.inbox.specs.declared.judged.Judgement.{Judgement}
 use Rattle.server_rules.specs.Event.{Setting}
 use Rattle.server_session.specs.Says.{setting_of}
-use Rattle.server_dispatch.specs.declared.action.Action.{Action}
-use Rattle.server_core.specs.SettlingAll.{all_settled, some_repeats}
-use Rattle.server_core.proofs.AllSettled.{HasUsed, all-begin, ends, goes-on, nothing-yet, repeats-first, repeats-next, spare-first, uses-all, uses-first}
+use Rattle.server_dispatch.specs.declared.dues.Due.{Due}
+use Rattle.server_core.specs.SettlingAll.{all_settled, calls_of}
+use Rattle.server_core.proofs.AllSettled.{HasUsed, all-begin, calls-first, calls-next, ends, goes-on, nothing-yet, spare-first, uses-all, uses-first}
 use Rattle.server_core.proofs.Left.{left-all, left-then}
 use Rattle.server_core.proofs.settling_all.settles_all.Goals as goal
 
@@ -21,15 +21,15 @@ loop-judgement-init g c =
     let second = into_iter_items (zip_second c.into_iter-judgement-iterator.result) in
     let first_is : first ≡ judged = rw (begins, c.zip-judgement-items.ensures.first) c.iter.ensures.rest in
     let second_is : second ≡ dues = rw begins c.zip-judgement-items.ensures.second.0 in
-    let repeats = some_repeats judged dues in
+    let calls = calls_of judged dues in
     record {
       can_next = (tt, tt);
       finite = tt;
       enough = subst (λ (left : List Judgement). length left ≤ length second) (sym first_is)
-          (subst (λ (left : List Action). length judged ≤ length left) (sym second_is) c.requires.enough);
-      repeats = λ is. sym (ap (λ (left : List Judgement). some_repeats left second) first_is ∙ ap (λ (left : List Action). some_repeats judged left) second_is) ∙ is;
-      used = subst (λ (left : List Action). HasUsed c.args.now c.args.limit repeats dues left c.args.limit c.args.standing.now c.args.turn.now c.args.standing.now c.args.turn.now) (sym second_is)
-          (nothing-yet c.args.now c.args.limit repeats dues c.args.standing.now c.args.turn.now);
+          (subst (λ (left : List Due). length judged ≤ length left) (sym second_is) c.requires.enough);
+      calls = λ kept is. sym (ap (λ (left : List Judgement). calls_of left second kept) first_is ∙ ap (λ (left : List Due). calls_of judged left kept) second_is) ∙ is;
+      used = subst (λ (left : List Due). HasUsed c.args.now c.args.limit calls dues left c.args.limit c.args.standing.now c.args.turn.now c.args.standing.now c.args.turn.now) (sym second_is)
+          (nothing-yet c.args.now c.args.limit calls dues c.args.standing.now c.args.turn.now);
       job_room = subst (λ (left : List Judgement). length left ≤ c.args.jobs.now.room) (sym first_is) c.requires.job_room;
       binding_room = subst (λ (left : List Judgement). length left ≤ c.args.bindings.now.room) (sym first_is) c.requires.binding_room;
       others = left-all c.args.others.now;
@@ -38,16 +38,21 @@ loop-judgement-init g c =
           c.args.jobs.now.jobs c.args.bindings.now.bindings c.args.draw.now bodies among first_is second_is are is speaks;
     }
 
+pub settles-left-requires-clause-at : goal.settles-left-requires-clause-at
+settles-left-requires-clause-at g c =
+    let uses = c.loop-judgement.invariant.used.uses (calls_of c.args.judged.now c.args.dues.items) (λ kept is. is) in
+    uses.at c.requires.at
+
 pub settles-left-requires-clause-room : goal.settles-left-requires-clause-room
 settles-left-requires-clause-room g c =
     let judgement = c.in-Some.judgement.now in
     let s = c.loop-judgement.judgement-iterator in
     let t = c.next.new.self in
-    let repeats = some_repeats c.args.judged.now c.args.dues.items in
+    let calls = calls_of c.args.judged.now c.args.dues.items in
     let steps = c.in-Some.ensures.steps in
-    let again = repeats-first repeats judgement (iter_rest (zip_first s)) (iter_rest (zip_first t)) c.in-Some.due (into_iter_items (zip_second s)) (into_iter_items (zip_second t))
-    steps.0 steps.1.0 c.loop-judgement.invariant.repeats in
-    spare-first c.args.now c.args.limit repeats judgement c.args.dues.items (into_iter_items (zip_second s)) (into_iter_items (zip_second t)) c.in-Some.due c.judged-due.result c.loop-judgement.left
+    let again = calls-first calls judgement (iter_rest (zip_first s)) (iter_rest (zip_first t)) c.in-Some.due (into_iter_items (zip_second s)) (into_iter_items (zip_second t))
+    steps.0 steps.1.0 c.loop-judgement.invariant.calls in
+    spare-first c.args.now c.args.limit calls judgement c.args.dues.items (into_iter_items (zip_second s)) (into_iter_items (zip_second t)) c.in-Some.due c.judged-due.result c.loop-judgement.left
     c.args.standing.now c.args.turn.now c.loop-judgement.standing c.loop-judgement.turn c.judged-due.ensures c.requires.room c.loop-judgement.invariant.used steps.1.0 again
 
 pub loop-judgement-preserved : goal.loop-judgement-preserved
@@ -67,9 +72,9 @@ loop-judgement-preserved g c =
     let first_is : judged ≡ judgement ∷ next = c.in-Some.ensures.steps.0 in
     let due_is : dues ≡ due ∷ left_dues = c.in-Some.ensures.steps.1.0 in
     let long : length judged ≡ length (judgement ∷ next) = ap (λ (judged : List Judgement). length judged) first_is in
-    let due_long : length dues ≡ length (due ∷ left_dues) = ap (λ (dues : List Action). length dues) due_is in
-    let repeats = some_repeats c.args.judged.now c.args.dues.items in
-    let again = repeats-first repeats judgement judged next due dues left_dues first_is due_is so_far.repeats in
+    let due_long : length dues ≡ length (due ∷ left_dues) = ap (λ (dues : List Due). length dues) due_is in
+    let calls = calls_of c.args.judged.now c.args.dues.items in
+    let again = calls-first calls judgement judged next due dues left_dues first_is due_is so_far.calls in
     let answered = c.settles-left.result in
     let left = c.loop-judgement.left in
     let few = promised.few in
@@ -78,8 +83,8 @@ loop-judgement-preserved g c =
       can_next = (tt, tt);
       finite = tt;
       enough = omega (arith, so_far.enough, long, due_long);
-      repeats = repeats-next repeats judgement judged next due dues left_dues first_is due_is so_far.repeats;
-      used = uses-first now c.args.limit repeats judgement c.args.dues.items dues left_dues due given left answered (left - answered)
+      calls = calls-next calls judgement judged next due dues left_dues first_is due_is so_far.calls;
+      used = uses-first now c.args.limit calls judgement c.args.dues.items dues left_dues due given left answered (left - answered)
           c.args.standing.now c.args.turn.now c.loop-judgement.standing c.loop-judgement.turn after.standing after.turn
           c.judged-due.ensures so_far.used due_is again together promised.uses;
       job_room = omega (arith, so_far.job_room, promised.job_room_lasts, long);
@@ -116,9 +121,9 @@ returns-clause-settled g c = λ keys name past bodies among ring are is speaks.
     (so_far.under keys name past bodies among ring are is speaks) none
 
 pub returns-clause-uses : goal.returns-clause-uses
-returns-clause-uses g c = λ again implied.
-    uses-all c.args.now c.args.limit (some_repeats c.args.judged.now c.args.dues.items) c.args.dues.items (into_iter_items (zip_second c.loop-judgement.judgement-iterator)) c.loop-judgement.left
-    c.args.standing.now c.args.turn.now c.loop-judgement.standing c.loop-judgement.turn c.loop-judgement.invariant.used again implied
+returns-clause-uses g c = λ called implied.
+    uses-all c.args.now c.args.limit (calls_of c.args.judged.now c.args.dues.items) c.args.dues.items (into_iter_items (zip_second c.loop-judgement.judgement-iterator)) c.loop-judgement.left
+    c.args.standing.now c.args.turn.now c.loop-judgement.standing c.loop-judgement.turn c.loop-judgement.invariant.used called implied
 
 pub returns-clause-left : goal.returns-clause-left
 returns-clause-left g c = c.loop-judgement.invariant.others

@@ -1,15 +1,16 @@
-use Rattle.std.proofs.Common.{◌≡◌, ◌≤◌, ℕ, true, List, length}
+use Rattle.std.proofs.Common.{◌≡◌, ◌≤◌, ℕ, List, length}
 use Rattle.std.specs.Iterator.Adapters.{zip_first, zip_second}
 use Rattle.std.specs.Slice.Iter.{iter_rest}
 use Rattle.std.specs.Vec.Iter.{into_iter_items}
 use Rattle.id_window.specs.History.{History}
 use Rattle.server_rules.specs.Server.{Name}
 use Rattle.server_session.specs.Says.{Keys, setting_of}
+use Rattle.server_session.specs.Unsaid.{CallsFor}
 use Rattle.server_dispatch.specs.Rings.{AreOf}
 use Rattle.server_core.specs.Among.{Among}
 use Rattle.server_core.specs.Others.{AreLeft}
 use Rattle.server_core.specs.Settling.{SpeaksAmong}
-use Rattle.server_core.specs.SettlingAll.{AreDue, AreSettling, all_settled, some_repeats}
+use Rattle.server_core.specs.SettlingAll.{AreDue, AreSettling, all_settled, calls_of}
 use Rattle.server_core.proofs.AllSettled.{HasUsed, IsUnderWay}
 use Rattle.server_core.proofs.settling_all.settles_all.Given as goal
 
@@ -19,8 +20,8 @@ invariant-loop-judgement g l = record {
   can_next : (goal.iterator-loop-judgement g).can_next l.judgement-iterator;
   finite : (goal.iterator-loop-judgement g).is_finite l.judgement-iterator;
   enough : length (iter_rest (zip_first l.judgement-iterator)) ≤ length (into_iter_items (zip_second l.judgement-iterator));
-  repeats : some_repeats (iter_rest (zip_first l.judgement-iterator)) (into_iter_items (zip_second l.judgement-iterator)) ≡ true → some_repeats l.judged l.fn.dues.items ≡ true;
-  used : HasUsed l.now l.limit (some_repeats l.judged l.fn.dues.items) l.fn.dues.items (into_iter_items (zip_second l.judgement-iterator)) l.left l.fn.standing l.fn.turn l.standing l.turn;
+  calls : CallsFor (calls_of (iter_rest (zip_first l.judgement-iterator)) (into_iter_items (zip_second l.judgement-iterator))) (calls_of l.judged l.fn.dues.items);
+  used : HasUsed l.now l.limit (calls_of l.judged l.fn.dues.items) l.fn.dues.items (into_iter_items (zip_second l.judgement-iterator)) l.left l.fn.standing l.fn.turn l.standing l.turn;
   job_room : length (iter_rest (zip_first l.judgement-iterator)) ≤ l.jobs.room;
   binding_room : length (iter_rest (zip_first l.judgement-iterator)) ≤ l.bindings.room;
   others : AreLeft l.fn.others l.others;

@@ -1,7 +1,7 @@
 use Rattle.std.proofs.Common.{◌++◌, ◌∙◌, List, map, length, sym, ap, append_assoc, arith}
 use Rattle.std.proofs.lemmas.List.{append-nil}
 use Rattle.service_tl.specs.declared.lists.Message.{Message}
-use Rattle.server_dispatch.specs.Action.{needed_of}
+use Rattle.server_dispatch.specs.Action.{due_needed}
 use Rattle.server_dispatch.proofs.dues.add_parts.Goals as goal
 
 pub loop-part-preserved : goal.loop-part-preserved
@@ -14,5 +14,5 @@ loop-part-preserved c = (
 pub returns-clause-added : goal.returns-clause-added
 returns-clause-added c =
     sym (append-nil c.loop-part.dues.items)
-    ∙ ap (λ (left : List Message). c.loop-part.dues.items ++ map needed_of left) (sym c.in-None.ensures.steps.0)
+    ∙ ap (λ (left : List Message). c.loop-part.dues.items ++ map due_needed left) (sym c.in-None.ensures.steps.0)
     ∙ c.loop-part.invariant.0

@@ -1,6 +1,6 @@
 use Rattle.std.proofs.Common.{◌≡◌, ◌≤◌, ◌-◌}
 use Rattle.sess_journal.specs.Playing.{Follows, IsReady}
-use Rattle.sess_replay.specs.Replay.{bases_of}
+use Rattle.sess_journal.specs.Replay.{bases_of}
 use Rattle.sess_journal.proofs.kept.play_all.Given as goal
 
 -- the records so far are those that were played

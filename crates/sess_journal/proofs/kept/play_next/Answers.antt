@@ -1,4 +1,4 @@
-use Rattle.sess_replay.specs.Replay.{Bases, bases_of}
+use Rattle.sess_journal.specs.Replay.{Bases, bases_of}
 use Rattle.sess_journal.proofs.NextLemmas.{follows_next, stops_at}
 use Rattle.sess_journal.proofs.kept.play_next.Goals as goal
 

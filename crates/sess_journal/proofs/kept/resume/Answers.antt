@@ -3,7 +3,7 @@ use Rattle.sess_records.specs.declared.records.Event.TheVariants.{Interrupted}
 use Rattle.sess_journal.specs.Keeping.{IsSameDisk, disk_in}
 use Rattle.sess_journal.specs.Opening.{MayBecome}
 use Rattle.sess_journal.specs.Playing.{Player}
-use Rattle.sess_replay.specs.Replay.{Bases, bases_of}
+use Rattle.sess_journal.specs.Replay.{Bases, bases_of}
 use Rattle.sess_journal.proofs.OpenLemmas.{ended_at, nothing_done_at}
 use Rattle.sess_journal.proofs.ResumeLemmas.{at_disk, disk_is, ending_is, resumed_none, resumed_some}
 use Rattle.sess_journal.proofs.kept.resume.Goals as goal

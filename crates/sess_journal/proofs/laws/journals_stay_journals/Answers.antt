@@ -1,7 +1,7 @@
 use Rattle.std.proofs.Common.{List, [], ap}
 use Rattle.auth_keys.specs.declared.ring.RingKey.{RingKey}
 use Rattle.server_rules.specs.Server.{fresh_server}
-use Rattle.sess_replay.specs.Replay.{Bases, Basis, bases_of}
+use Rattle.sess_journal.specs.Replay.{Bases, Basis, bases_of}
 use Rattle.sess_journal.proofs.BackLemmas.{FileLaws}
 use Rattle.sess_journal.proofs.HistoryLemmas.{never_refused}
 use Rattle.sess_journal.proofs.laws.journals_stay_journals.Goals as goal

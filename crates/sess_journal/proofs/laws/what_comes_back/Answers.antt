@@ -1,6 +1,6 @@
 use Rattle.std.proofs.Common.{List, ap}
 use Rattle.auth_keys.specs.declared.ring.RingKey.{RingKey}
-use Rattle.sess_replay.specs.Replay.{Bases, Basis, bases_of}
+use Rattle.sess_journal.specs.Replay.{Bases, Basis, bases_of}
 use Rattle.sess_journal.proofs.BackLemmas.{FileLaws, comes_back, comes_back_whole, not_refused, returns_after}
 use Rattle.sess_journal.proofs.laws.what_comes_back.Goals as goal
 

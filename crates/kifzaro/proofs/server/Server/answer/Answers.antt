@@ -4,13 +4,13 @@ use Rattle.server_rules.specs.Answer.{after_work}
 use Rattle.server_session.specs.Says.{setting_of}
 use Rattle.kifzaro.specs.Drawing.{drawing}
 use Rattle.kifzaro.specs.Queues.{all_in}
-use Rattle.kifzaro.specs.Servers.{Did, Is, Kept, after_reply, giving}
+use Rattle.kifzaro.specs.Servers.{Did, Is, Kept, after_reply, giving, handed_out}
 use Rattle.kifzaro.proofs.ServerLemmas.{event_did}
 use Rattle.kifzaro.proofs.server.Server.answer.Goals as goal
 
 pub returns-clause-given : goal.returns-clause-given
 returns-clause-given c = λ keys server is.
-    let inside : Kept = record { server = c.self.inside.server; draw = c.self.inside.words; waiting = all_in c.self.inside.queue; asked = c.self.inside.asked } in
+    let inside : Kept = record { server = c.self.inside.server; draw = c.self.inside.words; waiting = all_in c.self.inside.queue; asked = handed_out c.self.inside.asked c.self.inside.server.jobs } in
     let after : Kept = record { server = c.work.new.self; draw = c.reach.new.self; waiting = all_in c.put.new.self; asked = None } in
     let effects = c.in_ok-effects.effects in
     let given = c.in_ok-given.given in

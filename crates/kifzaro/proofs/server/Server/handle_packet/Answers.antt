@@ -1,5 +1,4 @@
-use Rattle.std.proofs.Common.{◌≡◌, ◌++◌, max, None, List, ap, sym, subst, ◌∙◌}
-use Rattle.std.specs.Prelude.{is_some}
+use Rattle.std.proofs.Common.{◌≡◌, ◌++◌, Bool, max, None, List, ap, subst, ◌∙◌}
 use Rattle.envelope.specs.Lock.{mt_lock}
 use Rattle.envelope.specs.declared.parts.Dir.TheVariants.{Up}
 use Rattle.envelope.specs.Opening.{Opens}
@@ -11,16 +10,16 @@ use Rattle.server_dispatch.specs.Rings.{AreOf}
 use Rattle.server_session.specs.Says.{setting_of}
 use Rattle.kifzaro.specs.Drawing.{drawing}
 use Rattle.kifzaro.specs.Queues.{all_in}
-use Rattle.kifzaro.specs.Servers.{Did, Is, Kept}
-use Rattle.kifzaro.proofs.ServerLemmas.{event_did, moved, not_asked}
+use Rattle.kifzaro.specs.Servers.{Did, Is, Kept, handed_out}
+use Rattle.kifzaro.proofs.ServerLemmas.{event_did, moved}
 use Rattle.kifzaro.proofs.server.Server.handle_packet.Goals as goal
 
 pub returns-in-Judged-clause-given : goal.returns-in-Judged-clause-given
 returns-in-Judged-clause-given c = λ keys server envelope of is opens.
-    let inside : Kept = record { server = c.self.inside.server; draw = c.self.inside.words; waiting = all_in c.self.inside.queue; asked = c.self.inside.asked } in
-    let after : Kept = record { server = c.on_packet.new.self; draw = c.reach.new.self; waiting = all_in c.put.new.self; asked = c.self.inside.asked } in
+    let inside : Kept = record { server = c.self.inside.server; draw = c.self.inside.words; waiting = all_in c.self.inside.queue; asked = handed_out c.self.inside.asked c.self.inside.server.jobs } in
+    let after : Kept = record { server = c.on_packet.new.self; draw = c.reach.new.self; waiting = all_in c.put.new.self; asked = handed_out c.self.inside.asked c.on_packet.new.self.jobs } in
     let effects = effects_in c.in-Ok.reply in
-    let none : inside.asked ≡ None = not_asked inside.asked (ap (λ (kept : Kept). is_some kept.asked) c.self.view_is ∙ sym c.is_busy.ensures ∙ c.if-is_busy.false) in
+    let none : after.asked ≡ None = ap (λ (asked : Bool). handed_out asked c.on_packet.new.self.jobs) c.if-self.false in
     let waits : after.waiting ≡ inside.waiting ++ effects.out.outs =
     c.put.ensures.put ∙ ap (λ (outs : List Out). outs ++ effects.out.outs) c.make_room.ensures.same in
     subst (λ (old : Kept). AreOf old.server.seal keys → Is old server → Opens mt_lock old.server.seal (max old.server.moment c.args.now) Up c.args.packet.now envelope
@@ -35,8 +34,8 @@ returns-in-Judged-clause-given c = λ keys server envelope of is opens.
 
 pub returns-in-NotOpened-clause-stays : goal.returns-in-NotOpened-clause-stays
 returns-in-NotOpened-clause-stays c = λ server is.
-    let inside : Kept = record { server = c.self.inside.server; draw = c.self.inside.words; waiting = all_in c.self.inside.queue; asked = c.self.inside.asked } in
-    let after : Kept = record { server = c.on_packet.new.self; draw = c.self.inside.words; waiting = all_in c.make_room.new.self; asked = c.self.inside.asked } in
+    let inside : Kept = record { server = c.self.inside.server; draw = c.self.inside.words; waiting = all_in c.self.inside.queue; asked = handed_out c.self.inside.asked c.self.inside.server.jobs } in
+    let after : Kept = record { server = c.on_packet.new.self; draw = c.self.inside.words; waiting = all_in c.make_room.new.self; asked = handed_out c.self.inside.asked c.on_packet.new.self.jobs } in
     let heard = subst (λ (one : Heard). IsHeardOf mt_lock inside.server.seal (max inside.server.moment c.args.now) c.args.packet.now one) c.in-NotOpened.is c.in-Ok.ensures.heard in
     let nothing = c.in-Ok.ensures.refused c.in-NotOpened.refusal heard in
     subst (λ (old : Kept). Is old server → Is after (record server { now = max old.server.moment c.args.now })) c.self.view_is

@@ -1,19 +1,18 @@
-use Rattle.std.proofs.Common.{◌≡◌, ◌++◌, max, None, List, ap, sym, subst, ◌∙◌}
-use Rattle.std.specs.Prelude.{is_some}
+use Rattle.std.proofs.Common.{◌≡◌, ◌++◌, Bool, max, None, List, ap, subst, ◌∙◌}
 use Rattle.server_output.specs.declared.outs.Out.{Out}
 use Rattle.server_rules.specs.Answer.{after_tick}
 use Rattle.server_session.specs.Says.{setting_of}
 use Rattle.kifzaro.specs.Drawing.{drawing}
 use Rattle.kifzaro.specs.Queues.{all_in}
-use Rattle.kifzaro.specs.Servers.{Did, Is, Kept}
-use Rattle.kifzaro.proofs.ServerLemmas.{event_did, not_asked}
+use Rattle.kifzaro.specs.Servers.{Did, Is, Kept, handed_out}
+use Rattle.kifzaro.proofs.ServerLemmas.{event_did}
 use Rattle.kifzaro.proofs.server.Server.tick.Goals as goal
 
 pub returns-in-Ok-clause-given : goal.returns-in-Ok-clause-given
 returns-in-Ok-clause-given c = λ keys server is.
-    let inside : Kept = record { server = c.self.inside.server; draw = c.self.inside.words; waiting = all_in c.self.inside.queue; asked = c.self.inside.asked } in
-    let after : Kept = record { server = c.tick.new.self; draw = c.reach.new.self; waiting = all_in c.put.new.self; asked = c.self.inside.asked } in
-    let none : inside.asked ≡ None = not_asked inside.asked (ap (λ (kept : Kept). is_some kept.asked) c.self.view_is ∙ sym c.is_busy.ensures ∙ c.if-is_busy.false) in
+    let inside : Kept = record { server = c.self.inside.server; draw = c.self.inside.words; waiting = all_in c.self.inside.queue; asked = handed_out c.self.inside.asked c.self.inside.server.jobs } in
+    let after : Kept = record { server = c.tick.new.self; draw = c.reach.new.self; waiting = all_in c.put.new.self; asked = handed_out c.self.inside.asked c.tick.new.self.jobs } in
+    let none : after.asked ≡ None = ap (λ (asked : Bool). handed_out asked c.tick.new.self.jobs) c.if-self.false in
     let waits : after.waiting ≡ inside.waiting ++ c.in-Ok.effects.out.outs =
     c.put.ensures.put ∙ ap (λ (outs : List Out). outs ++ c.in-Ok.effects.out.outs) c.make_room.ensures.same in
     subst (λ (old : Kept). Is old server → Did old after (after_tick (setting_of (max old.server.moment c.args.now) drawing keys) server old.draw)) c.self.view_is

@@ -5,8 +5,8 @@ use Rattle.auth_keys.specs.declared.ring.RingKey.{RingKey}
 use Rattle.auth_keys.specs.Rings.{entry_of}
 use Rattle.inbox.specs.declared.judged.Judgement.{Judgement}
 use Rattle.inbox.specs.Kinds.{inner_messages}
-use Rattle.server_dispatch.specs.declared.action.Action.{Action}
-use Rattle.server_dispatch.specs.Action.{needed_of}
+use Rattle.server_dispatch.specs.declared.dues.Due.{Due}
+use Rattle.server_dispatch.specs.Action.{due_needed}
 use Rattle.server_dispatch.specs.Rings.{AreOf}
 use Rattle.waits.specs.Held.{Held}
 use Rattle.waits.specs.Jobs.{Queue}
@@ -24,11 +24,11 @@ use Rattle.server_core.specs.Packets.{Fits, bodies_of, brought, judged_of, kept_
 use Rattle.server_core.specs.Room.{CanTake}
 use Rattle.server_core.specs.Server.{CanSpeak, Kept, Stands}
 use Rattle.server_core.specs.Sessions.{is_kept_as}
-use Rattle.server_core.specs.SettlingAll.{AreDue, some_repeats}
+use Rattle.server_core.specs.SettlingAll.{AreDue, are_numbered}
 use Rattle.server_core.proofs.HeardLemmas.{beside-new, can-judged, fits-few, heard-blocked, heard-new, judged-so}
 use Rattle.server_core.proofs.Lists.{no-place}
 use Rattle.server_core.proofs.Names.{name-by}
-use Rattle.server_core.proofs.PacketDues.{are-due}
+use Rattle.server_core.proofs.PacketDues.{are-due, same-numbers}
 use Rattle.server_core.proofs.Speaking.{kept-later, none-at, sessions-have_room}
 use Rattle.server_core.proofs.Taken.{due-few}
 use Rattle.server_core.proofs.server.Server.takes_new.Goals as goal
@@ -125,19 +125,20 @@ returns-clause-given g c = λ keys server of stands order.
     let has = judged-so setting envelope c.in_ok-others.others one c.judges_in_room.new.standing c.makes_place.new.jobs.jobs c.makes_place.new.jobs.jobs
     server.bindings c.judges_in_room.new.bindings.bindings c.new.new.draw judged heard is_heard after refl same_bindings judged_is alone ordered in
     let bodies = bodies_of setting envelope session in
-    let due_is : taken.dues.items ≡ map needed_of (message_in envelope ∷ inner_messages (message_in envelope)) = c.in_ok-both.ensures.dues in
+    let due_is : taken.dues.items ≡ map due_needed (message_in envelope ∷ inner_messages (message_in envelope)) = c.in_ok-both.ensures.dues in
     let J : List Judgement → Type 0 = λ judged. AreDue judged bodies taken.dues.items in
-    let E : List Action → Type 0 = λ dues. AreDue (judged_of setting envelope session) bodies dues in
+    let E : List Due → Type 0 = λ dues. AreDue (judged_of setting envelope session) bodies dues in
     let due : AreDue judged bodies taken.dues.items =
     subst J (sym judged_is) (subst E (sym due_is) (are-due (way_of setting envelope session) (remembered session) (message_in envelope))) in
     let limit_is : taken.limit ≡ blocked_of name server.jobs + length taken.dues.items =
     c.in_ok-both.ensures.limit
     ∙ (ap (λ (name : Name). blocked_of name c.self.inside.jobs.jobs + length taken.dues.items) named_so
     ∙ ap (λ (jobs : Queue). blocked_of name jobs + length taken.dues.items) inside.jobs) in
-    let A : List Judgement → Type 0 = λ judged. some_repeats judged taken.dues.items ≡ true → taken.again ≡ true in
+    let A : List Judgement → Type 0 = λ judged. are_numbered judged taken.dues.items ≡ true in
+    let N : List Due → Type 0 = λ dues. are_numbered (judged_of setting envelope session) dues ≡ true in
     let fits : Fits setting envelope judged taken heard = record {
       due = due;
-      again = subst A (sym c.as_slice.ensures) (c.in_ok-both.ensures.again session is_heard.stands);
+      numbered = subst A (sym judged_is) (subst N (sym due_is) (same-numbers (way_of setting envelope session) (remembered session) (message_in envelope)));
       few =
           fits-few (blocked_of name server.jobs) (blocked_of name heard.speaker.jobs) (length judged) (length taken.dues.items) taken.limit limit_is
           (heard-blocked setting envelope (session_named name server.sessions) state) (due-few judged bodies taken.dues.items due);

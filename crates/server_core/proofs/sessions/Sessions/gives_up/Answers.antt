@@ -1,6 +1,6 @@
 use Rattle.std.proofs.Common.{◌≡◌, ◌<◌, List, length, get_or, sym, subst}
 use Rattle.std.proofs.lemmas.List.{get_or-set_same}
-use Rattle.server_answers.specs.Contents.{content_of}
+use Rattle.server_dispatch.specs.Contents.{content_of}
 use Rattle.server_dispatch.specs.Speaks.{Speaks}
 use Rattle.server_rules.specs.Event.{Speaker}
 use Rattle.server_rules.specs.Waiting.{gives_up}

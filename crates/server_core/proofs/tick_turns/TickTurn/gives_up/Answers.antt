@@ -1,5 +1,5 @@
 use Rattle.std.proofs.Common.{sym, subst}
-use Rattle.server_answers.specs.Contents.{content_of}
+use Rattle.server_dispatch.specs.Contents.{content_of}
 use Rattle.server_dispatch.specs.Entries.{Held}
 use Rattle.server_dispatch.specs.Speaks.{HasRoom, Speaks}
 use Rattle.server_rules.specs.Event.{Speaker}

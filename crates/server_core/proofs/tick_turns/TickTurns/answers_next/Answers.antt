@@ -1,5 +1,5 @@
 use Rattle.std.proofs.Common.{◌≡◌, ◌∙◌, ℕ, Option, Some, None, List, ap, sym, subst}
-use Rattle.server_answers.specs.Contents.{content_of}
+use Rattle.server_dispatch.specs.Contents.{content_of}
 use Rattle.waits.specs.Held.{Held}
 use Rattle.waits.specs.declared.job.Job.{Job}
 use Rattle.waits.specs.Jobs.{Queue, first_job, without_first}

@@ -1,7 +1,7 @@
 use Rattle.std.proofs.Common.{◌∙◌, ap}
 use Rattle.waits.specs.declared.job.Job.{Job}
 use Rattle.waits.specs.Jobs.{Queue, accepted}
-use Rattle.server_answers.specs.Contents.{content_of}
+use Rattle.server_dispatch.specs.Contents.{content_of}
 use Rattle.server_session.specs.Says.{setting_of}
 use Rattle.server_dispatch.proofs.Steps.{spoken-as, with-jobs}
 use Rattle.server_dispatch.proofs.Accepting.{as-job, in-place, job-is, left-is}

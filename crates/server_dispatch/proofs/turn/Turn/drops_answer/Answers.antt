@@ -8,6 +8,7 @@ use Rattle.server_rules.specs.Speaking.{answers}
 use Rattle.law_server.specs.Order.{IsUnanswered}
 use Rattle.server_session.specs.Fates.{kept_to}
 use Rattle.server_session.specs.Says.{setting_of}
+use Rattle.server_dispatch.proofs.Using.{both-unsaid}
 use Rattle.server_dispatch.proofs.Steps.{spoken-as, with-jobs}
 use Rattle.server_dispatch.proofs.DropLemmas.{found-holds, looked-for, none-taken, others-are}
 use Rattle.server_dispatch.proofs.turn.Turn.drops_answer.Goals as goal
@@ -52,3 +53,8 @@ returns-in-None-clause-speaks g c = λ keys bindings draw speaker name others pa
     let kept = with-jobs _ _ _ _ c.cancel.new.self.jobs speaker.jobs _ _ speaker speaks same in
     spoken-as _ _ _ _ _ _ _ _ (ap (λ (one : Option Job). drops_by setting c.args.number one (kept_to c.args.call session.replies) speaker) found)
     (c.drops_kept.ensures.speaks keys c.cancel.new.self.jobs bindings draw speaker order.midway.order.replied none kept)
+
+pub returns-in-Some-clause-unsaid : goal.returns-in-Some-clause-unsaid
+returns-in-Some-clause-unsaid g c =
+    both-unsaid c.args.standing.now c.answers_shortly.new.standing c.gives_up.new.standing c.args.self.now.owing c.answers_shortly.new.self.owing c.gives_up.new.self.owing
+    c.answers_shortly.ensures.unsaid c.gives_up.ensures.unsaid

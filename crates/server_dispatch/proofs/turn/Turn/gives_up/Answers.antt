@@ -1,5 +1,5 @@
 use Rattle.server_rules.specs.Speaking.{answers_in_place}
-use Rattle.server_answers.specs.Contents.{content_of}
+use Rattle.server_dispatch.specs.Contents.{content_of}
 use Rattle.server_session.specs.Says.{setting_of}
 use Rattle.server_dispatch.proofs.Steps.{told-of}
 use Rattle.server_dispatch.proofs.turn.Turn.gives_up.Goals as goal

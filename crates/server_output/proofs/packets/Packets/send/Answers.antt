@@ -68,21 +68,13 @@ sealed-out-requires-clause-numbers g c =
     let count = ap (λ (all : List (List Message)). length all) first in
     omega (arith, count, c.loop-start.invariant.numbers_are)
 
-pub sealed-out-requires-clause-body : goal.sealed-out-requires-clause-body
-sealed-out-requires-clause-body g c =
-    let fits = group-fits c.lent-parts.result.items c.deref.result.now c.loop-start.start c.front-count.result c.deref.ensures.value c.container_sizes.ensures.whole
-    c.args.self.messages c.args.self.bytes c.loop-start.invariant.left c.front-count.ensures.packet in
-    let are : c.loop-start.places.items ≡ c.pop.new.self.items ++ c.unwrap-place.result ∷ [] = rw c.unwrap-place.ensures at c.pop.ensures.items in
-    let is = place-taken (packed_most c.args.self.messages c.args.self.bytes) c.loop-start.places.items c.pop.new.self.items c.unwrap-place.result are c.loop-start.invariant.places in
-    (ap (λ (draft : Draft). draft.bytes) is.body_is, omega (arith, fits.most, ap (λ (draft : Draft). draft.room) is.body_is))
-
 pub sealed-out-requires-clause-room : goal.sealed-out-requires-clause-room
 sealed-out-requires-clause-room g c =
     let fits = group-fits c.lent-parts.result.items c.deref.result.now c.loop-start.start c.front-count.result c.deref.ensures.value c.container_sizes.ensures.whole
     c.args.self.messages c.args.self.bytes c.loop-start.invariant.left c.front-count.ensures.packet in
     let are : c.loop-start.places.items ≡ c.pop.new.self.items ++ c.unwrap-place.result ∷ [] = rw c.unwrap-place.ensures at c.pop.ensures.items in
     let is = place-taken (packed_most c.args.self.messages c.args.self.bytes) c.loop-start.places.items c.pop.new.self.items c.unwrap-place.result are c.loop-start.invariant.places in
-    (ap (λ (draft : Draft). draft.bytes) is.packet_is, omega (arith, fits.most, ap (λ (draft : Draft). draft.room) is.packet_is))
+    (ap (λ (draft : Draft). draft.bytes) is, omega (arith, fits.most, ap (λ (draft : Draft). draft.room) is))
 
 pub push-requires : goal.push-requires
 push-requires g c =

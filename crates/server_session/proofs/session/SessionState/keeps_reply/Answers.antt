@@ -4,7 +4,8 @@ use Rattle.inbox.specs.Inbox.{Stands as InboxStands}
 use Rattle.outbox.specs.declared.kept.Kept.{Kept}
 use Rattle.outbox.specs.Bodies.{head_bytes}
 use Rattle.outbox.specs.Replies.{Replies}
-use Rattle.server_rules.specs.Server.{is_good, kept_replies, marks_of}
+use Rattle.server_rules.specs.Server.{kept_replies, marks_of}
+use Rattle.service_tl.specs.Results.{is_good}
 use Rattle.server_session.specs.Marking.{replied_mark, turned}
 use Rattle.server_session.proofs.OldestLemmas.{kept-further, marks-kept}
 use Rattle.server_session.proofs.session.SessionState.keeps_reply.Goals as goal

@@ -13,14 +13,10 @@ use Rattle.server_rules.specs.Server.{Reply, kept_of}
 use Rattle.server_rules.specs.Rows.{says_reply}
 use Rattle.server_session.specs.Fates.{kept_to}
 use Rattle.server_session.specs.Says.{Says}
-use Rattle.server_session.specs.Unsaid.{unsaid_bytes, unsaid_count}
+use Rattle.server_session.specs.Unsaid.{called_weight, is_to, unsaid_bytes, unsaid_count}
 use Rattle.server_session.proofs.MarkLemmas.{first-kept, replied-kept}
-use Rattle.server_session.proofs.UnsaidLemmas.{unsaid-one, unsaid-spent}
+use Rattle.server_session.proofs.UnsaidLemmas.{passes-found, unsaid-one, unsaid-spent, weighs-called}
 use Rattle.server_session.proofs.session.SessionState.says_kept.Goals as goal
-
--- how it was found
-abbrev is_to : ℕ → Kept → Bool
-is_to call kept = eqb kept.call call
 
 -- what is owed for it
 abbrev again : Kept → Message
@@ -31,7 +27,8 @@ says_again-requires-clause-place g c = λ unsaid.
     let replies = c.args.self.now.outbox.replies in
     let kept = c.in-Some.kept.now in
     let found : by_call c.args.call replies ≡ Some kept = sym c.kept_to.ensures.found ∙ ap option_copied c.in-Some.is in
-    let one : 1 ≤ unsaid_count c.args.self.now c.args.owing.now = unsaid-one (λ kept. 1) c.args.owing.now.messages replies kept (is_to c.args.call) found unsaid in
+    let weighs = weighs-called (is_to c.args.call) (λ kept. 1) kept (passes-found (is_to c.args.call) replies kept found) in
+    let one : called_weight (is_to c.args.call) (λ kept. 1) kept ≤ unsaid_count (is_to c.args.call) c.args.self.now c.args.owing.now = unsaid-one (called_weight (is_to c.args.call) (λ kept. 1)) c.args.owing.now.messages replies kept (is_to c.args.call) found unsaid in
     omega (arith, c.requires.places)
 
 pub says_again-requires-clause-bytes : goal.says_again-requires-clause-bytes
@@ -39,27 +36,30 @@ says_again-requires-clause-bytes g c = λ unsaid.
     let replies = c.args.self.now.outbox.replies in
     let kept = c.in-Some.kept.now in
     let found : by_call c.args.call replies ≡ Some kept = sym c.kept_to.ensures.found ∙ ap option_copied c.in-Some.is in
-    let bytes : length kept.body ≤ unsaid_bytes c.args.self.now c.args.owing.now =
-    unsaid-one (λ kept. length kept.body) c.args.owing.now.messages replies kept (is_to c.args.call) found unsaid in
+    let weighs = weighs-called (is_to c.args.call) (λ kept. length kept.body) kept (passes-found (is_to c.args.call) replies kept found) in
+    let bytes : called_weight (is_to c.args.call) (λ kept. length kept.body) kept ≤ unsaid_bytes (is_to c.args.call) c.args.self.now c.args.owing.now =
+    unsaid-one (called_weight (is_to c.args.call) (λ kept. length kept.body)) c.args.owing.now.messages replies kept (is_to c.args.call) found unsaid in
     omega (arith, c.requires.bytes)
 
 pub returns-in-Some-clause-places : goal.returns-in-Some-clause-places
-returns-in-Some-clause-places g c =
+returns-in-Some-clause-places g c = λ called calls.
     let replies = c.args.self.now.outbox.replies in
     let kept = c.in-Some.kept.now in
     let step = c.says_again.ensures in
-    unsaid-spent (λ kept. 1) c.args.owing.now.messages c.says_again.new.owing.messages (again kept) replies kept c.args.owing.now.places c.says_again.new.owing.places (is_to c.args.call) refl
+    let weighs = weighs-called called (λ kept. 1) kept (calls kept (passes-found (is_to c.args.call) replies kept (sym c.kept_to.ensures.found ∙ ap option_copied c.in-Some.is))) in
+    unsaid-spent (called_weight called (λ kept. 1)) c.args.owing.now.messages c.says_again.new.owing.messages (again kept) replies kept c.args.owing.now.places c.says_again.new.owing.places (is_to c.args.call) refl
     (sym c.kept_to.ensures.found ∙ ap option_copied c.in-Some.is) step.said
-    (λ was. (ap (λ (owing : Dues). owing.messages) (step.unchanged_where_said was), ap (λ (owing : Dues). owing.places) (step.unchanged_where_said was))) step.places
+    (λ was. (ap (λ (owing : Dues). owing.messages) (step.unchanged_where_said was), ap (λ (owing : Dues). owing.places) (step.unchanged_where_said was))) (omega (arith, step.places))
 
 pub returns-in-Some-clause-left : goal.returns-in-Some-clause-left
-returns-in-Some-clause-left g c =
+returns-in-Some-clause-left g c = λ called calls.
     let replies = c.args.self.now.outbox.replies in
     let kept = c.in-Some.kept.now in
     let step = c.says_again.ensures in
-    unsaid-spent (λ kept. length kept.body) c.args.owing.now.messages c.says_again.new.owing.messages (again kept) replies kept c.args.owing.now.room c.says_again.new.owing.room (is_to c.args.call) refl
+    let weighs = weighs-called called (λ kept. length kept.body) kept (calls kept (passes-found (is_to c.args.call) replies kept (sym c.kept_to.ensures.found ∙ ap option_copied c.in-Some.is))) in
+    unsaid-spent (called_weight called (λ kept. length kept.body)) c.args.owing.now.messages c.says_again.new.owing.messages (again kept) replies kept c.args.owing.now.room c.says_again.new.owing.room (is_to c.args.call) refl
     (sym c.kept_to.ensures.found ∙ ap option_copied c.in-Some.is) step.said
-    (λ was. (ap (λ (owing : Dues). owing.messages) (step.unchanged_where_said was), ap (λ (owing : Dues). owing.room) (step.unchanged_where_said was))) step.left
+    (λ was. (ap (λ (owing : Dues). owing.messages) (step.unchanged_where_said was), ap (λ (owing : Dues). owing.room) (step.unchanged_where_said was))) (omega (arith, step.left))
 
 pub returns-in-Some-clause-says : goal.returns-in-Some-clause-says
 returns-in-Some-clause-says g c = λ now draw good speaker marked says.

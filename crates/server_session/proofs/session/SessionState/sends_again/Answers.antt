@@ -6,7 +6,7 @@ use Rattle.outbox.specs.Replies.{Contents}
 use Rattle.server_rules.specs.Event.{Speaker}
 use Rattle.server_rules.specs.Rows.{kept_numbered, tells_states}
 use Rattle.server_session.specs.Says.{Says, setting_of}
-use Rattle.server_session.specs.Unsaid.{unsaid_bytes, unsaid_count, unsaid_weight}
+use Rattle.server_session.specs.Unsaid.{called_weight, unsaid_bytes, unsaid_count, unsaid_weight}
 use Rattle.server_session.proofs.UnsaidLemmas.{all-kept, said_numbered, unsaid-fewer}
 use Rattle.server_session.proofs.session.SessionState.sends_again.Goals as goal
 
@@ -33,19 +33,19 @@ returns-else-keeps_all-clause-says g c = λ keys draw speaker says.
     (c.tells_states.ensures.says keys draw speaker says)
 
 pub returns-else-keeps_all-clause-places : goal.returns-else-keeps_all-clause-places
-returns-else-keeps_all-clause-places g c =
+returns-else-keeps_all-clause-places g c = λ called calls.
     let told = c.tells_states.new.owing.messages in
-    let same : unsaid_count c.tells_states.new.self c.tells_states.new.owing ≡ unsaid_weight (λ kept. 1) told c.args.self.now.outbox.replies =
-    ap (λ (outbox : Contents). unsaid_weight (λ kept. 1) told outbox.replies) c.tells_states.ensures.same_replies in
-    let fewer : unsaid_weight (λ kept. 1) told c.args.self.now.outbox.replies ≤ unsaid_count c.args.self.now c.args.owing.now =
-    unsaid-fewer (λ kept. 1) c.args.owing.now.messages told c.args.self.now.outbox.replies c.tells_states.ensures.stays_said in
+    let same : unsaid_count called c.tells_states.new.self c.tells_states.new.owing ≡ unsaid_weight (called_weight called (λ kept. 1)) told c.args.self.now.outbox.replies =
+    ap (λ (outbox : Contents). unsaid_weight (called_weight called (λ kept. 1)) told outbox.replies) c.tells_states.ensures.same_replies in
+    let fewer : unsaid_weight (called_weight called (λ kept. 1)) told c.args.self.now.outbox.replies ≤ unsaid_count called c.args.self.now c.args.owing.now =
+    unsaid-fewer (called_weight called (λ kept. 1)) c.args.owing.now.messages told c.args.self.now.outbox.replies c.tells_states.ensures.stays_said in
     omega (arith, c.tells_states.ensures.places)
 
 pub returns-else-keeps_all-clause-left : goal.returns-else-keeps_all-clause-left
-returns-else-keeps_all-clause-left g c =
+returns-else-keeps_all-clause-left g c = λ called calls.
     let told = c.tells_states.new.owing.messages in
-    let same : unsaid_bytes c.tells_states.new.self c.tells_states.new.owing ≡ unsaid_weight (λ kept. length kept.body) told c.args.self.now.outbox.replies =
-    ap (λ (outbox : Contents). unsaid_weight (λ kept. length kept.body) told outbox.replies) c.tells_states.ensures.same_replies in
-    let fewer : unsaid_weight (λ kept. length kept.body) told c.args.self.now.outbox.replies ≤ unsaid_bytes c.args.self.now c.args.owing.now =
-    unsaid-fewer (λ kept. length kept.body) c.args.owing.now.messages told c.args.self.now.outbox.replies c.tells_states.ensures.stays_said in
+    let same : unsaid_bytes called c.tells_states.new.self c.tells_states.new.owing ≡ unsaid_weight (called_weight called (λ kept. length kept.body)) told c.args.self.now.outbox.replies =
+    ap (λ (outbox : Contents). unsaid_weight (called_weight called (λ kept. length kept.body)) told outbox.replies) c.tells_states.ensures.same_replies in
+    let fewer : unsaid_weight (called_weight called (λ kept. length kept.body)) told c.args.self.now.outbox.replies ≤ unsaid_bytes called c.args.self.now c.args.owing.now =
+    unsaid-fewer (called_weight called (λ kept. length kept.body)) c.args.owing.now.messages told c.args.self.now.outbox.replies c.tells_states.ensures.stays_said in
     omega (arith, c.tells_states.ensures.left)

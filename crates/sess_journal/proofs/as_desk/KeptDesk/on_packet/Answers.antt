@@ -2,7 +2,7 @@ use Rattle.std.proofs.Common.{◌++◌, max}
 use Rattle.server_rules.specs.Answer.{after_packet}
 use Rattle.server_core.specs.Packets.{brought_in, effects_in}
 use Rattle.server_session.specs.Says.{setting_of}
-use Rattle.sess_replay.specs.Replay.{Bases, bases_of}
+use Rattle.sess_journal.specs.Replay.{Bases, bases_of}
 use Rattle.sess_journal.proofs.TraitLemmas.{by_opened, by_refused, counts_so, does_nothing_so, does_so, ok_map, stays_in_place, still_stands}
 use Rattle.sess_journal.specs.Keeping.{disk_in}
 use Rattle.sess_journal.proofs.as_desk.KeptDesk.on_packet.Goals as goal

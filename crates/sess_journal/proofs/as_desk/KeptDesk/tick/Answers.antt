@@ -1,7 +1,7 @@
 use Rattle.std.proofs.Common.{◌++◌, max}
 use Rattle.server_rules.specs.Answer.{after_tick}
 use Rattle.server_session.specs.Says.{setting_of}
-use Rattle.sess_replay.specs.Replay.{Bases, bases_of}
+use Rattle.sess_journal.specs.Replay.{Bases, bases_of}
 use Rattle.sess_journal.proofs.TraitLemmas.{counts_so, does_so, ok_map, stays_in_place, still_stands}
 use Rattle.sess_journal.specs.Keeping.{disk_in}
 use Rattle.sess_journal.proofs.as_desk.KeptDesk.tick.Goals as goal

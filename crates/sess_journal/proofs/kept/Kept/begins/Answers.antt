@@ -6,7 +6,7 @@ use Rattle.server_core.specs.declared.desk.DeskFault.TheVariants as faults
 use Rattle.waits.specs.Jobs.{Queue, ready_count}
 use Rattle.sess_journal.specs.Keeping.{KeepsFor, Seen, entry_at}
 use Rattle.sess_journal.specs.Staging.{Stage}
-use Rattle.sess_replay.specs.Replay.{Bases, bases_of}
+use Rattle.sess_journal.specs.Replay.{Bases, bases_of}
 use Rattle.sess_journal.proofs.DeskLemmas.{added_in, added_journals, err_is, failed_journals, its, left_in, none_journals, same_record}
 use Rattle.sess_journal.proofs.RunLemmas.{BeginJournals, begin_leads, begins_at, begun}
 use Rattle.sess_journal.proofs.kept.Kept.begins.Goals as goal

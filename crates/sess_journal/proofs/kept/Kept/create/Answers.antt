@@ -1,5 +1,5 @@
 use Rattle.std.proofs.Common.{[], refl, sym, ◌∙◌}
-use Rattle.sess_replay.specs.Replay.{Bases, at_first, bases_of}
+use Rattle.sess_journal.specs.Replay.{Bases, at_first, bases_of}
 use Rattle.sess_journal.proofs.ResumeLemmas.{keeps_by}
 use Rattle.sess_journal.proofs.kept.Kept.create.Goals as goal
 

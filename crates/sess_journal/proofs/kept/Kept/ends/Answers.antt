@@ -12,7 +12,7 @@ use Rattle.server_rules.specs.Answer.{Answer, after_work}
 use Rattle.server_session.specs.Says.{Keys, setting_of}
 use Rattle.sess_journal.specs.Keeping.{HasBegun, Seen, entry_at, reply_at}
 use Rattle.sess_journal.specs.Staging.{RunStage}
-use Rattle.sess_replay.specs.Replay.{Bases, bases_of}
+use Rattle.sess_journal.specs.Replay.{Bases, bases_of}
 use Rattle.sess_journal.proofs.DeskLemmas.{Occurs, added_by, added_in, basis, does_recorded, draw_back, err_is, failed_by, gives_now, its, left_in, none_journals}
 use Rattle.sess_journal.proofs.EventLemmas.{run_occurs}
 use Rattle.sess_journal.proofs.RunLemmas.{EndJournals, reply_is, same_ran}

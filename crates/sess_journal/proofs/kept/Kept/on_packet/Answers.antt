@@ -14,7 +14,7 @@ use Rattle.server_rules.specs.Answer.{Answer, after_packet}
 use Rattle.server_session.specs.Says.{Keys, setting_of}
 use Rattle.sess_journal.specs.Keeping.{KeepsFor, Seen, entry_at}
 use Rattle.sess_journal.specs.Staging.{Stage}
-use Rattle.sess_replay.specs.Replay.{Bases, bases_of}
+use Rattle.sess_journal.specs.Replay.{Bases, bases_of}
 use Rattle.sess_journal.proofs.DeskLemmas.{Occurs, added_by, added_in, does_recorded, draw_back, err_is, failed_by, gives_now, its, left_in, none_journals, quiet_journals, same_record}
 use Rattle.sess_journal.proofs.EventLemmas.{packet_occurs}
 use Rattle.sess_journal.proofs.HearLemmas.{HearJournals, by_judged, by_not_opened, hears_nothing}

@@ -2,8 +2,8 @@ use Rattle.std.proofs.Common.{◌∙◌, ℕ, Some, List, arith, subst, sym}
 use Rattle.std.specs.Prelude.{IfSome}
 use Rattle.sess_records.specs.Calls.{IfNotJournal}
 use Rattle.sess_journal.specs.Opening.{IsLawfulFile, disk_left}
-use Rattle.sess_replay.specs.Files.{IsNoJournalAt}
-use Rattle.sess_replay.specs.Replay.{Bases, bases_of}
+use Rattle.sess_journal.specs.Files.{IsNoJournalAt}
+use Rattle.sess_journal.specs.Replay.{Bases, bases_of}
 use Rattle.sess_journal.proofs.OpenLemmas.{never_refused, no_journal_at_once, no_journal_when_read, played_finished, played_lawful, resumed, under_seal}
 use Rattle.sess_journal.proofs.kept.Kept.open.Goals as goal
 

@@ -9,7 +9,7 @@ use Rattle.server_rules.specs.Answer.{Answer, after_tick}
 use Rattle.server_session.specs.Says.{Keys, setting_of}
 use Rattle.sess_journal.specs.Keeping.{GivesNothing, KeepsFor, Seen, entry_at}
 use Rattle.sess_journal.specs.Staging.{Stage}
-use Rattle.sess_replay.specs.Replay.{Bases, bases_of}
+use Rattle.sess_journal.specs.Replay.{Bases, bases_of}
 use Rattle.sess_journal.proofs.DeskLemmas.{LeaveRoom, MayJournals, Occurs, added_by, added_in, basis, does_quiet, does_recorded, draw_back, err_is, failed_by, gives_now, iff_no, its, keeps_room, left_in, none_journals, quiet_journals, same_record}
 use Rattle.sess_journal.proofs.EventLemmas.{tick_occurs}
 use Rattle.sess_journal.proofs.kept.Kept.tick.Goals as goal

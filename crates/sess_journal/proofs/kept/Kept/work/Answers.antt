@@ -6,7 +6,7 @@ use Rattle.server_core.specs.declared.effects.Effects.{Effects}
 use Rattle.server_rules.specs.Answer.{Answer, after_work}
 use Rattle.server_session.specs.Says.{Keys, setting_of}
 use Rattle.sess_journal.specs.Keeping.{Adds, Seen, entry_at, reply_at}
-use Rattle.sess_replay.specs.Replay.{Bases, bases_of}
+use Rattle.sess_journal.specs.Replay.{Bases, bases_of}
 use Rattle.sess_journal.proofs.DeskLemmas.{err_is}
 use Rattle.sess_journal.proofs.RunLemmas.{EndJournals, RunJournals, begin_refused, run_up, seed_in}
 use Rattle.sess_journal.proofs.kept.Kept.work.Goals as goal

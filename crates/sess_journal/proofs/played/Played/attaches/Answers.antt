@@ -5,7 +5,7 @@ use Rattle.server_rules.specs.Answer.{after_attach}
 use Rattle.server_rules.specs.Server.{Name}
 use Rattle.server_session.specs.Says.{setting_of}
 use Rattle.sess_journal.specs.Playing.{Player, StandsAt, basis_for}
-use Rattle.sess_replay.specs.Replay.{Bases, bases_of, reached_by}
+use Rattle.sess_journal.specs.Replay.{Bases, bases_of, reached_by}
 use Rattle.sess_journal.proofs.PlayLemmas.{event_stands}
 use Rattle.sess_journal.proofs.played.Played.attaches.Goals as goal
 

@@ -2,7 +2,7 @@ use Rattle.std.proofs.Common.{None, refl, sym, subst, ◌∙◌}
 use Rattle.ring_rules.specs.Binding.{keys_of}
 use Rattle.server_session.specs.Says.{setting_of}
 use Rattle.sess_journal.specs.Playing.{Player, StandsAt, basis_for}
-use Rattle.sess_replay.specs.Replay.{Bases, after_reply, always, bases_of}
+use Rattle.sess_journal.specs.Replay.{Bases, after_reply, always, bases_of}
 use Rattle.sess_journal.proofs.PlayLemmas.{event_stands, reply_now}
 use Rattle.sess_journal.proofs.played.Played.ends.Goals as goal
 

@@ -9,7 +9,7 @@ use Rattle.server_dispatch.specs.Rings.{AreOf}
 use Rattle.server_rules.specs.Answer.{after_packet}
 use Rattle.server_session.specs.Says.{setting_of}
 use Rattle.sess_journal.specs.Playing.{Player, StandsAt, basis_for}
-use Rattle.sess_replay.specs.Replay.{Bases, bases_of, reached_by}
+use Rattle.sess_journal.specs.Replay.{Bases, bases_of, reached_by}
 use Rattle.sess_journal.proofs.PlayLemmas.{event_moment, event_stands, refused_only}
 use Rattle.sess_journal.proofs.played.Played.hears.Goals as goal
 

@@ -1,4 +1,4 @@
-use Rattle.sess_replay.specs.Replay.{Bases, bases_of}
+use Rattle.sess_journal.specs.Replay.{Bases, bases_of}
 use Rattle.sess_journal.proofs.PlayLemmas.{cut_leads, on_ok}
 use Rattle.sess_journal.proofs.played.Played.interrupted.Goals as goal
 

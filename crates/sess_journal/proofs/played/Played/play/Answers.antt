@@ -1,7 +1,7 @@
 use Rattle.std.proofs.Common.{sym, ap, subst, arith, ◌∙◌}
 use Rattle.sess_records.specs.declared.records.Event.TheVariants.{Packet, Tick, Attach, Begin, Ran, Interrupted}
 use Rattle.sess_journal.specs.Playing.{Player, StandsAt, basis_for}
-use Rattle.sess_replay.specs.Replay.{Bases, bases_of}
+use Rattle.sess_journal.specs.Replay.{Bases, bases_of}
 use Rattle.sess_journal.proofs.PlayLemmas.{not_below, on_err, on_ok, plays_none, plays_of}
 use Rattle.sess_journal.proofs.played.Played.play.Goals as goal
 

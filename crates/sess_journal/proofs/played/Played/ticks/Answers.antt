@@ -4,7 +4,7 @@ use Rattle.msg_ids.specs.Moments.{moment_of}
 use Rattle.server_rules.specs.Answer.{after_tick}
 use Rattle.server_session.specs.Says.{setting_of}
 use Rattle.sess_journal.specs.Playing.{Player, StandsAt, basis_for}
-use Rattle.sess_replay.specs.Replay.{Bases, bases_of, reached_by}
+use Rattle.sess_journal.specs.Replay.{Bases, bases_of, reached_by}
 use Rattle.sess_journal.proofs.PlayLemmas.{event_stands}
 use Rattle.sess_journal.proofs.played.Played.ticks.Goals as goal
 

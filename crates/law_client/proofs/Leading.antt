@@ -1,0 +1,50 @@
+-- Moves one after the other.
+use Rattle.std.proofs.Common.{◌≡◌, ℕ, zero, suc, List, [], ◌∷◌, ◌++◌, sym, subst, arith}
+use Rattle.std.specs.List.{All, Contains}
+use Rattle.std.proofs.lemmas.List.Elements.{All-append}
+use Rattle.law_moves.specs.Table.{Message}
+use Rattle.law_moves.specs.World.{World}
+use Rattle.law_moves.specs.Move.{Move}
+use Rattle.law_moves.specs.Extends.{IsOfClient}
+use Rattle.law_moves.specs.Lawful.{IsLawful}
+use Rattle.law_moves.specs.After.{after}
+use Rattle.law_moves.specs.Reached.{AreLawful, Reached, after_all}
+use Rattle.law_client.specs.Leading.{Leads}
+
+-- what the law on moves promises of lists of moves
+pub record GoOn : Type 0 where
+  pub reached : (w : World) (moves : List Move) → Reached w → AreLawful w moves → Reached (after_all w moves)
+  pub lawful : (w : World) (before moves : List Move) → AreLawful w before → AreLawful (after_all w before) moves → AreLawful w (before ++ moves)
+  pub after : (w : World) (before moves : List Move) → after_all w (before ++ moves) ≡ after_all (after_all w before) moves
+
+-- nothing is done
+pub stays : (number : ℕ) (w : World) (P : World → Type 0) → P w → Leads number w P
+stays number w P holds = record { moves = []; lawful = tt; own = λ k d below. absurd (omega arith); gives = holds }
+
+one_own : (P : Move → Type 0) (move : Move) → P move → All P (move ∷ [])
+one_own P move holds zero d below = holds
+one_own P move holds (suc k) d below = absurd (omega arith)
+
+-- one move
+pub moves_once : (number : ℕ) (w : World) (P : World → Type 0) (move : Move) → IsLawful w move → IsOfClient number move → P (after w move) → Leads number w P
+moves_once number w P move lawful own holds =
+    record { moves = move ∷ []; lawful = (lawful, tt); own = one_own (IsOfClient number) move own; gives = holds }
+
+-- and then others
+pub goes_on : GoOn → (number : ℕ) (w : World) (P Q : World → Type 0) → Reached w → Leads number w P
+    → ((later : World) → Reached later → P later → Leads number later Q) → Leads number w Q
+goes_on on number w P Q reached first next =
+    let second = next (after_all w first.moves) (on.reached w first.moves reached first.lawful) first.gives in
+    record {
+      moves = first.moves ++ second.moves;
+      lawful = on.lawful w first.moves second.moves first.lawful second.lawful;
+      own = All-append (IsOfClient number) first.moves second.moves first.own second.own;
+      gives = subst Q (sym (on.after w first.moves second.moves)) second.gives;
+    }
+
+pub leads_so : (number : ℕ) (w : World) (P Q : World → Type 0) → ((later : World) → P later → Q later) → Leads number w P → Leads number w Q
+leads_so number w P Q so h = record { moves = h.moves; lawful = h.lawful; own = h.own; gives = so _ h.gives }
+
+-- what the law promises of messages: none is taken away
+abbrev pub Grows : Type 0
+Grows = (w : World) (moves : List Move) → AreLawful w moves → (message : Message) → Contains w.ups message → Contains (after_all w moves).ups message

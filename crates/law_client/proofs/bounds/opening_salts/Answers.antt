@@ -1,0 +1,5 @@
+use Rattle.law_client.proofs.Salted.{made-sourced}
+use Rattle.law_client.proofs.bounds.opening_salts.Goals as goal
+
+pub returns : goal.returns
+returns g c = λ setting key temporary draw events is. (made-sourced setting key temporary draw events).opening is

@@ -1,6 +1,0 @@
-mod Keeping
-mod Sending
-mod Taking
-mod Bounded
-mod Salted
-mod Due

@@ -1,8 +1,0 @@
-use Rattle.std.proofs.Common.{arith}
-use Rattle.client_rules.specs.Events.{made}
-use Rattle.law_client_bounds.proofs.Bounded.{all-bounded}
-use Rattle.law_client_bounds.proofs.laws.clients_are_bounded.Goals as goal
-
-pub returns : goal.returns
-returns g c = λ setting key temporary draw events.
-    all-bounded setting (made setting key temporary draw) events (record { learnt = omega arith; packets = omega arith })

@@ -1,8 +1,0 @@
-use Rattle.law_client_bounds.proofs.Due.{due-few, flush-less}
-use Rattle.law_client_bounds.proofs.laws.flushes_leave_less.Goals as goal
-
-pub returns-clause-less : goal.returns-clause-less
-returns-clause-less g c = flush-less
-
-pub returns-clause-few : goal.returns-clause-few
-returns-clause-few g c = due-few

@@ -1,3 +1,0 @@
-pub mod Bounds
-pub mod Salts
-pub mod Due

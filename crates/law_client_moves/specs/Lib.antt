@@ -1,4 +1,0 @@
-pub mod Sent
-pub mod Clients
-pub mod Leading
-pub mod Packets

@@ -1,4 +1,0 @@
-pub mod Bytes
-pub mod Drawn
-pub mod Bodies
-pub mod Sealing

@@ -1,5 +1,0 @@
-use Rattle.law_packet_parts.proofs.Drawn.{drawn-padding}
-use Rattle.law_packet_parts.proofs.laws.drawn_padding_is_lawful.Goals as goal
-
-pub returns : goal.returns
-returns g c = λ step body draw. drawn-padding step body draw
