@@ -16,7 +16,7 @@ use std::alloc::Global;
 /// # Errors
 ///
 /// `Memory`, and then the text is as it was.
-pub fn calls_of_client(
+pub(crate) fn calls_of_client(
     alloc: Global,
     into: &mut Octets,
     client: u64,
