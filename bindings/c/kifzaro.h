@@ -1,8 +1,11 @@
-/* Both ends of a session of MTProto 2.0, without sockets and clocks: bytes and moments come in, bytes go out.
+/* Both ends of a session of MTProto 2.0, without sockets and clocks: bytes and moments come in, bytes go out. Each packet, request and reply
+ * that comes out fits into
+ *
+ *     static uint8_t room[KF_PACKET_BYTES_MAX], reply[KF_BODY_BYTES_MAX]; size_t len;
  *
  * A client under a key of a key file, and a call:
  *
- *     kf_client client = KF_INIT; uint64_t call; size_t len; int decided = 0;
+ *     kf_client client = KF_INIT; uint64_t call; int decided = 0;
  *     kf_client_new(&client, keys, keys_len, key, seed);
  *     kf_client_submit(&client, body, body_len, 0, &call);
  *     for (;;) {
@@ -14,9 +17,30 @@
  *     kf_client_take_reply(&client, call, room, sizeof room, &len);
  *     kf_client_free(&client);
  *
- * A server gives what came to kf_server_handle_packet, answers each request of kf_server_next_request by kf_server_answer, and sends
- * what kf_server_poll_transmit hands out. How packets are told apart in a stream is the caller's: in the intermediate form a client
- * sends the bytes ee ee ee ee once, and each side sends each packet behind its length in 4 bytes, the lowest first.
+ * A server over many connections, which has to know which of them a session's packets came over last:
+ *
+ *     kf_server server = KF_INIT; uint64_t key, session; int there;
+ *     kf_server_new(&server, keys, keys_len, seed);
+ *     for (;;) {
+ *         int from = receive_packet_of_any(room, sizeof room, &len);
+ *         if (kf_server_handle_packet(&server, time(0), room, len, &key, &session) == KF_OK && is_new_for(key, session, from))
+ *             kf_server_attach(&server, key, session, time(0));
+ *         kf_server_tick(&server, time(0));
+ *         while (kf_server_next_request(&server, &there, room, sizeof room, &len) == KF_OK && there)
+ *             kf_server_answer(&server, time(0), reply, run(room, len, reply));
+ *         while (kf_server_poll_transmit(&server, &key, &session, room, sizeof room, &len) == KF_OK && len)
+ *             send_packet_over(connection_of(key, session), room, len);
+ *     }
+ *
+ * How packets are told apart in a stream is the caller's: in the intermediate form a client sends the bytes ee ee ee ee once, and each side
+ * sends each packet behind its length in 4 bytes, the lowest first.
+ *
+ * Replies. A call is done once it has a reply, which may be an error: one that begins with the bytes 19 ca 44 21 (rpc_error), a code in 4
+ * bytes, the lowest first, and a text, which is its length in a byte, its bytes, and zeros up to whole words. A server's program answers so
+ * where it can't run a request: each that was handed out has to be answered. The library answers so in its place where it hands out none:
+ * 400 BAD_BODY, PACKED_BODY_REFUSED, MSG_WAIT_FAILED (the call was to follow one that failed), MSG_WAIT_TIMEOUT (that one had no reply in
+ * 30 seconds), 401 AUTH_KEY_PERM_EMPTY (a temporary key isn't bound), 420 JOBS_FULL. A call that follows one whose reply is an error never
+ * runs.
  *
  * Statuses. Each function answers a kf_status. Where it isn't KF_OK, nothing of the caller's is written and the client or server goes
  * on as if it hadn't been called, unless the comment of the function says otherwise. So a packet is never lost by want of memory or
@@ -32,7 +56,7 @@
  * Bytes. Those that go in are read within the call and stay the caller's. Those that come out go into `room` of the caller's, which
  * has room_len bytes: *len becomes how many were put there. By KF_TOO_SHORT it becomes how many are needed, the room is as it was, and
  * the same call with more room gives the same bytes. The library keeps no pointer of the caller's and lends none of its own, but for
- * the two static texts. No pointer may be NULL, but for bytes and room of length 0.
+ * static texts. No pointer may be NULL, but for bytes and room of length 0.
  *
  * A moment `now` is Unix time in seconds. A key is named by its identifier: bytes 12 to 19 of the SHA-1 of its 256 bytes, as a number
  * whose lowest byte comes first. What examples/make_keys and `mtp` write as 32d1586ea457dfc8 is 0xc8df57a46e58d132 here.
@@ -83,8 +107,8 @@ typedef enum kf_status {
 typedef enum kf_call_state {
     KF_QUEUED = 0,  /* it waits to be sent */
     KF_SENT = 1,    /* it was sent, and isn't answered */
-    KF_HELD = 2,    /* it waits for another session: kf_client_renew */
-    KF_DONE = 3,    /* it was answered: kf_client_take_reply */
+    KF_HELD = 2,    /* the client's clock is ahead of the server's, and it waits for another session: kf_client_renew, once none is sent */
+    KF_DONE = 3,    /* it has a reply, which may be an error: kf_client_take_reply */
     KF_REFUSED = 4, /* it never executes; the code is the server's, 0 where the client gave it up */
     KF_UNKNOWN = 5  /* it isn't known whether it executed; the code is 1 the server lost the session, 2 renewed, 3 ended, 4 forgotten */
 } kf_call_state;
@@ -124,11 +148,11 @@ kf_status kf_client_attach(kf_client *client);
 kf_status kf_client_handle_packet(kf_client *client, uint64_t now, const uint8_t *packet, size_t len);
 
 /* The packet that is to be sent next goes into the room; *len becomes 0 where there is none. Each is handed out once: call it until there
- * is none. KF_TOO_SHORT: *len becomes what it needs, and it waits. KF_SPENT: only the moment counts. */
+ * is none. KF_TOO_SHORT: *len becomes what it needs, and it waits. KF_SPENT. */
 kf_status kf_client_poll_transmit(kf_client *client, uint64_t now, uint8_t *room, size_t room_len, size_t *len);
 
-/* It goes on in another session: of calls that are sent it isn't known what became. A packet that waits is still handed out.
- * KF_NOT_OPEN. */
+/* It goes on in another session: of calls that are sent it isn't known what became, and those that are held wait to be sent. A packet that
+ * waits is still handed out. KF_NOT_OPEN. */
 kf_status kf_client_renew(kf_client *client);
 
 /* It ends: of calls that are sent it isn't known what became, and others that aren't decided are refused with code 0. A packet that waits
@@ -191,7 +215,7 @@ kf_status kf_server_ready(kf_server *server, uint64_t *ready);
 kf_status kf_server_next_request(kf_server *server, int *there, uint8_t *room, size_t room_len, size_t *len);
 
 /* The request that was handed out has run, and this is its reply, whole words of 4 bytes. The reply is copied. KF_NOT_ASKED.
- * KF_BAD_REPLY, KF_MEMORY: the request waits on. */
+ * KF_BAD_REPLY, KF_MEMORY: the request waits on, and kf_server_next_request gives it again. */
 kf_status kf_server_answer(kf_server *server, uint64_t now, const uint8_t *reply, size_t len);
 
 /* The packet that is to be sent next goes into the room, and *key and *session become the name of the session that it is for; *len

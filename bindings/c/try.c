@@ -261,6 +261,24 @@ static void leavings(void)
     kf_server_free(&server);
 }
 
+/* A client whose clock is a minute ahead of the server's: its call is held, until it goes on in another session. */
+static void ahead(void)
+{
+    kf_client client = KF_INIT; kf_server server = KF_INIT; uint64_t call, key, session; uint32_t state = KF_QUEUED, code; size_t len; int renewed = 0, asked = 0;
+    MUST(kf_client_new(&client, BYTES(keys), strlen(keys), KEY_ID, seed) == KF_OK && kf_server_new(&server, BYTES(keys), strlen(keys), seed) == KF_OK);
+    MUST(kf_client_submit(&client, BYTES("ask me!!"), 8, 0, &call) == KF_OK);
+    for (int k = 0; k < 9 && state != KF_DONE; k++) {
+        while (kf_client_poll_transmit(&client, NOW + 60, room, sizeof room, &len) == KF_OK && len) MUST(kf_server_handle_packet(&server, NOW, room, len, &key, &session) == KF_OK);
+        MUST(answer_all(&server, &asked) == KF_OK);
+        while (kf_server_poll_transmit(&server, &key, &session, room, sizeof room, &len) == KF_OK && len) MUST(kf_client_handle_packet(&client, NOW + 60, room, len) == KF_OK);
+        MUST(kf_client_state(&client, call, &state, &code) == KF_OK);
+        if (state == KF_HELD) { renewed++; MUST(kf_client_renew(&client) == KF_OK); }
+    }
+    MUST(state == KF_DONE && renewed == 1 && asked == 1);
+    kf_client_free(&client);
+    kf_server_free(&server);
+}
+
 /* The limits of the header: what is as long as it may be, and longer. */
 static void limits(void)
 {
@@ -380,6 +398,7 @@ int main(int count, char **words)
     temporary();
     wishes();
     leavings();
+    ahead();
     if (count > 1) { many(atoi(words[1])); return 0; }
     limits();
     sessions();

@@ -63,8 +63,8 @@ type State uint32
 const (
 	Queued  State = C.KF_QUEUED  // It waits to be sent.
 	Sent    State = C.KF_SENT    // It was sent, and isn't answered.
-	Held    State = C.KF_HELD    // It waits for another session.
-	Done    State = C.KF_DONE    // It was answered.
+	Held    State = C.KF_HELD    // The client's clock is ahead of the server's, and it waits for another session: Renew, once none is sent.
+	Done    State = C.KF_DONE    // It has a reply, which may be an error.
 	Refused State = C.KF_REFUSED // It never executes; the code is the server's, 0 where the client gave it up.
 	Unknown State = C.KF_UNKNOWN // Unknown whether it executed; 1 the server lost the session, 2 renewed, 3 ended, 4 forgotten.
 )
@@ -172,7 +172,7 @@ func (c *Client) Submit(body []byte, after uint64) (uint64, error) {
 	return uint64(call), err
 }
 
-// Attach says that a connection was opened after an earlier one: what was sent and isn't answered is sent again.
+// Attach says that a connection was opened after an earlier one: what was sent and isn't answered is sent again. Run does so.
 func (c *Client) Attach() error {
 	defer runtime.KeepAlive(c)
 	return must(C.kf_client_attach(&c.handle))
@@ -196,7 +196,7 @@ func (c *Client) PollTransmit(now uint64) ([]byte, error) {
 	return packet, err
 }
 
-// Renew goes on in another session: of calls that are sent it isn't known what became.
+// Renew goes on in another session: of calls that are sent it isn't known what became, and those that are held are queued.
 func (c *Client) Renew() error {
 	defer runtime.KeepAlive(c)
 	return must(C.kf_client_renew(&c.handle))
@@ -322,8 +322,8 @@ func (s *Server) Ready() (uint64, error) {
 	return uint64(ready), err
 }
 
-// NextRequest gives the next ready request, or nil where there is none. Until it is answered the server takes nothing else, and this gives it
-// again.
+// NextRequest gives the next ready request, or nil where there is none. Until it is answered, be it by an error, the server takes nothing else,
+// and this gives it again.
 func (s *Server) NextRequest() ([]byte, error) {
 	defer runtime.KeepAlive(s)
 	var there C.int

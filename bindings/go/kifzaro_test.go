@@ -3,6 +3,7 @@ package kifzaro
 import (
 	"bytes"
 	"errors"
+	"io"
 	"net"
 	"strings"
 	"testing"
@@ -133,6 +134,74 @@ func TestOverTCP(t *testing.T) {
 			t.Error(told)
 		}
 	}
+	listener.Close()
+}
+
+// A reply that isn't taken is an error of its call, and leaves the server at work.
+func TestAReplyThatIsNotTaken(t *testing.T) {
+	listener := make(pipes)
+	go Serve(listener, Must(NewServer(theKeys())), func(request []byte) []byte { return request[:len(request)-int(request[0]-'0')] })
+	for _, row := range [][2]string{{"3dd!", badReply}, {"4444even", "4444"}} {
+		if replies := Must(Must(NewClient(theKeys(), theKey)).Call(listener.dial(), row[0])); replies[0] != row[1] {
+			t.Error(replies)
+		}
+	}
+	listener.Close()
+}
+
+// A connection that ends before the reply: the call is sent again over the next one, and runs once.
+func TestAnotherConnection(t *testing.T) {
+	listener, asked := make(pipes), 0
+	go Serve(listener, Must(NewServer(theKeys())), func(request []byte) []byte { asked++; return request })
+	client := Must(NewClient(theKeys(), theKey))
+	call := Must(client.Submit([]byte("ask me!!"), 0))
+	for cut := 1; ; cut++ {
+		if err := client.Run(&cutConn{listener.dial(), cut}); err == nil {
+			break
+		}
+	}
+	if reply := Must(client.TakeReply(call)); string(reply) != "ask me!!" || asked != 1 {
+		t.Error(string(reply), asked)
+	}
+	listener.Close()
+}
+
+// A connection that fails behind so many reads.
+type cutConn struct {
+	net.Conn
+	reads int
+}
+
+func (c *cutConn) Read(into []byte) (int, error) {
+	if c.reads == 0 {
+		c.Conn.Close()
+		return 0, io.ErrUnexpectedEOF
+	}
+	c.reads--
+	return c.Conn.Read(into)
+}
+
+// A client whose clock is a minute ahead of the server's: its call is held, and goes in another session.
+func TestAClockThatIsAhead(t *testing.T) {
+	listener := Must(net.Listen("tcp", "127.0.0.1:0"))
+	go func() {
+		server, wire := Must(NewServer(theKeys())), Must(ServerWire(Must(listener.Accept())))
+		for packet, err := wire.Receive(); err == nil; packet, err = wire.Receive() {
+			Must(server.HandlePacket(Now()-60, packet))
+			for request := Must(server.NextRequest()); request != nil; request = Must(server.NextRequest()) {
+				Must(true, server.Answer(Now()-60, request))
+			}
+			for _, out, err := server.PollTransmit(); Must(out, err) != nil; _, out, err = server.PollTransmit() {
+				Must(true, wire.Send(out))
+			}
+		}
+	}()
+	client, conn := Must(NewClient(theKeys(), theKey)), Must(net.Dial("tcp", listener.Addr().String()))
+	before := Must(client.Session())
+	if replies := Must(client.Call(conn, "ask me!!")); replies[0] != "ask me!!" || Must(client.Session()) == before {
+		t.Error(replies)
+	}
+	conn.Close()
 	listener.Close()
 }
 

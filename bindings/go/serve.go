@@ -1,6 +1,7 @@
 package kifzaro
 
 import (
+	"errors"
 	"io"
 	"log"
 	"net"
@@ -41,8 +42,12 @@ func (c *Client) Call(stream io.ReadWriter, bodies ...string) ([]string, error) 
 	return replies, nil
 }
 
-// Run brings the client's packets over a new connection, of the intermediate form, and the server's back, until each call is decided.
+// Run brings the client's packets over a new connection, of the intermediate form, and the server's back, until each call is decided. Where it
+// gives an error, it may be done again over another connection: what was sent and isn't answered is sent again.
 func (c *Client) Run(stream io.ReadWriter) error {
+	if err := c.Attach(); err != nil && err != Ended {
+		return err
+	}
 	wire, err := ClientWire(stream)
 	for err == nil {
 		if err = c.sendAll(wire); err != nil {
@@ -56,8 +61,28 @@ func (c *Client) Run(stream io.ReadWriter) error {
 		if packet, err = wire.Receive(); err == nil {
 			err = c.HandlePacket(Now(), packet)
 		}
+		if err == nil {
+			err = c.renewIfHeld()
+		}
 	}
 	return err
+}
+
+// Calls are held where the client's clock is ahead of the server's: once none is sent they go in another session.
+func (c *Client) renewIfHeld() error {
+	isHeld := false
+	for call := uint64(1); ; call++ {
+		state, _, err := c.State(call)
+		switch {
+		case err == NoCall && isHeld:
+			return c.Renew()
+		case err == NoCall || state == Sent:
+			return nil
+		case err != nil:
+			return err
+		}
+		isHeld = isHeld || state == Held
+	}
 }
 
 func (c *Client) sendAll(wire *Wire) error {
@@ -95,7 +120,8 @@ type desk struct {
 
 // Serve accepts connections of the intermediate form until the listener fails, and has all of them served by one server: each call is
 // answered by answer, one after the other. Each connection is written to by a goroutine of its own, so one that isn't read holds up no other;
-// it is closed where 256 packets wait for it. Packets that don't open are logged. Nothing else calls with the server meanwhile.
+// it is closed where 256 packets wait for it. Packets that don't open are logged, and so is a reply that isn't taken, in whose place rpc_error
+// goes, 500 BAD_REPLY. Nothing else calls with the server meanwhile.
 func Serve(listener net.Listener, server *Server, answer func(request []byte) []byte) error {
 	desk := &desk{server: server, answer: answer, ends: map[SessionName]*line{}}
 	for {
@@ -168,13 +194,21 @@ func (d *desk) take(its *line, packet []byte) error {
 	return d.handOut()
 }
 
+// An error in the place of a reply that isn't taken: without one the server would be busy for good.
+const badReply = "\x19\xca\x44\x21\xf4\x01\x00\x00\x09BAD_REPLY\x00\x00"
+
 func (d *desk) answerAll() error {
 	for {
 		request, err := d.server.NextRequest()
 		if err != nil || request == nil {
 			return err
 		}
-		if err := d.server.Answer(Now(), d.answer(request)); err != nil {
+		err = d.server.Answer(Now(), d.answer(request))
+		if errors.Is(err, BadReply) {
+			log.Print(err)
+			err = d.server.Answer(Now(), []byte(badReply))
+		}
+		if err != nil {
 			return err
 		}
 	}

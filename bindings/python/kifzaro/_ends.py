@@ -32,7 +32,12 @@ class SessionName(NamedTuple):
 
 
 class State(enum.IntEnum):
-    """What became of a call."""
+    """What became of a call.
+
+    ``QUEUED``: it waits to be sent. ``SENT``: it was sent, and isn't answered. ``HELD``: the client's clock is ahead of the server's, and it
+    waits for another session: ``renew``, once none is sent. ``DONE``: it has a reply, which may be an error. ``REFUSED``: it never executes.
+    ``UNKNOWN``: it isn't known whether it executed.
+    """
 
     QUEUED = 0
     SENT = 1
@@ -182,7 +187,7 @@ class Client(_End):
             yield packet
 
     def renew(self) -> None:
-        """Goes on in another session: of calls that are sent it isn't known what became."""
+        """Goes on in another session: of calls that are sent it isn't known what became, and those that are held are queued."""
         self._do(library.kf_client_renew)
 
     def end(self) -> None:
@@ -269,8 +274,8 @@ class Server(_End):
         return ready.value
 
     def next_request(self) -> bytes | None:
-        """The next ready request, if there is one. Until it is answered the server takes nothing else, and this gives it again: a coroutine
-        doesn't wait between the two."""
+        """The next ready request, if there is one. Until it is answered, be it by an error, the server takes nothing else, and this gives it
+        again: a coroutine doesn't wait between the two."""
         there = c_int()
         request = self._put(library.kf_server_next_request, byref(there))
         return request if there.value else None

@@ -86,6 +86,21 @@ class Talks(unittest.TestCase):
         self.assertRaises(Refused, turn, client, server, expires)
         self.assertEqual(client.state(call), State.SENT)
 
+    def test_a_clock_that_is_ahead(self):
+        client, server = ends()
+        call, states = client.submit(b"ask me!!"), []
+        for _ in range(9):
+            for packet in client.transmits(NOW + 60):
+                server.handle_packet(packet, NOW)
+            while (request := server.next_request()) is not None:
+                server.answer(request, NOW)
+            for _name, packet in server.transmits():
+                client.handle_packet(packet, NOW + 60)
+            states.append(client.state(call))
+            if states[-1] == State.HELD:
+                client.renew()
+        self.assertEqual((states.count(State.HELD), states[-1]), (1, State.DONE))
+
     def test_a_reply_of_many_bytes(self):
         client, server = ends()
         call = client.submit(b"much")

@@ -6,6 +6,7 @@ const START: [u8; 4] = [0xee; 4];
 const PACKET_BYTES_MAX: usize = 1_048_576;
 
 /// One end of a connection: each packet stands behind its length in 4 bytes, the lowest first.
+#[derive(Debug)]
 pub struct Wire<S>(S);
 
 impl<S> Wire<S> {

@@ -76,9 +76,9 @@ pub enum State {
     Queued,
     /// It was sent, and isn't answered.
     Sent,
-    /// It waits for another session.
+    /// The client's clock is ahead of the server's, and it waits for another session: `renew`, once none is sent.
     Held,
-    /// It was answered.
+    /// It has a reply, which may be an error.
     Done,
     /// It never executes; the code is the server's, 0 where the client gave it up.
     Refused(u32),
@@ -157,13 +157,13 @@ impl Client {
     ///
     /// # Errors
     ///
-    /// `Spent`, and only the moment counts.
+    /// `Spent`.
     pub fn poll_transmit(&mut self, now: u64) -> Result<Option<Vec<u8>>, Error> {
         let packet = bytes_of(|room, count, len| unsafe { raw::kf_client_poll_transmit(&mut self.0, now, room, count, len) })?;
         Ok(Some(packet).filter(|it| !it.is_empty()))
     }
 
-    /// Goes on in another session: of calls that are sent it isn't known what became.
+    /// Goes on in another session: of calls that are sent it isn't known what became, and those that are held are queued.
     ///
     /// # Errors
     ///
@@ -352,7 +352,8 @@ impl Server {
         Ok(ready)
     }
 
-    /// The next ready request, if there is one. Until it is answered the server takes nothing else, and this gives it again.
+    /// The next ready request, if there is one. Until it is answered, be it by an error, the server takes nothing else, and this gives it
+    /// again.
     ///
     /// # Errors
     ///

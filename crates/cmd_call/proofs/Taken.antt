@@ -9,7 +9,7 @@ use Rattle.call_script.specs.declared.script.ScriptCall.{ScriptCall}
 use Rattle.client_core.specs.Keys.{Keys}
 use Rattle.client_rules.specs.Asking.{Fault}
 use Rattle.commands.specs.declared.command.CallOptions.{CallOptions}
-use Rattle.key_files.specs.Files.{IsRefusedAt, line_of}
+use Rattle.key_files.specs.Files.{IsFileOf, IsRefusedAt, line_of}
 use Rattle.statuses.specs.Outside.{IfTold, Outside}
 use Rattle.statuses.specs.declared.status.Status.{Status}
 use Rattle.statuses.specs.declared.status.Status.TheVariants as status
@@ -20,7 +20,7 @@ use Rattle.client_node.specs.declared.plan.Batch.{Batch}
 use Rattle.client_node.specs.declared.plan.Batch.TheVariants as batch
 use Rattle.client_rules.specs.Client.{calls_of}
 use Rattle.cmd_call.specs.Table.{TellsBatch, are_done, decided_status}
-use Rattle.cmd_call.specs.Runs.{IsOfCall, IsFile, IsNoScript, IsScript}
+use Rattle.cmd_call.specs.Runs.{IsOfCall, IsNoScript, IsScript}
 use Rattle.cmd_call.specs.Script.{untaken}
 
 pub if-told : {X : Type 0} (o : Option X) (P : X → Type 0) → ((x : X) → P x) → IfSome o P
@@ -66,7 +66,7 @@ module _ (one-script : (text : List ℕ) (calls others : List ScriptCall) → Sp
     -- ---- the key file
 
     pub file_taken : (calls : List ScriptCall) → OwesToScript options calls files around said due
-        → IfSome (files.told files.before) (λ told. (text : List ℕ) → IsFile told.files options.keys text
+        → IfSome (files.told files.before) (λ told. (text : List ℕ) → IsFileOf told.files options.keys text
         → ((said ≡ status.KeysRefused) × FileFault files) ⊎ OwesToKeyFile options calls text around said due)
     file_taken calls (inl r) = if-told (files.told files.before) _ (λ told text is. inl (r.said, r.fault))
     file_taken calls (inr (other, gave, owes)) =

@@ -1,6 +1,5 @@
 -- What the command promises.
 use Rattle.std.specs.Prelude.{◌≡◌, ◌<◌, ◌≤◌, ◌⊎◌, ◌+◌, ℕ, Some, None, IfSome, IsSome, IsSomeAnd, List, ◌++◌, All, length}
-use Rattle.std.specs.List.{Contains}
 use Rattle.auth_keys.specs.KeyFile.{IsRingOf}
 use Rattle.auth_keys.specs.declared.ring.RingKey.{RingKey}
 use Rattle.call_script.specs.Scripts.{HasBadLine, Spells}
@@ -9,8 +8,7 @@ use Rattle.client_core.specs.Keys.{Keys}
 use Rattle.client_node.specs.Counts.{Counted}
 use Rattle.client_rules.specs.Asking.{Fault}
 use Rattle.commands.specs.declared.command.CallOptions.{CallOptions}
-use Rattle.key_files.specs.Files.{IsRefusedAt}
-use Rattle.mt_edge.specs.declared.key_files.NamedFile.{NamedFile}
+use Rattle.key_files.specs.Files.{IsFileOf, IsRefusedAt}
 use Rattle.mt_edge.specs.declared.net_call.NetCall.{NetCall}
 use Rattle.mt_edge.specs.declared.net_call.NetCall.TheVariants.{Listen, Connect, Accept}
 use Rattle.mt_edge.specs.declared.net_call.Outcome.TheVariants.{Failed, Open, Done}
@@ -37,12 +35,9 @@ pub record IsScript (text : List ℕ) (calls : List ScriptCall) : Type 0 where
 abbrev pub IfScript : {S : Type 0} → Outside S → (List ScriptCall → Type 0) → Type 0
 IfScript input P = IfTold input (λ text. (calls : List ScriptCall) → IsScript text calls → P calls)
 
--- each file of this name has this text
-abbrev pub IsFile : List NamedFile → List ℕ → List ℕ → Type 0
-IsFile files name text = (other : List ℕ) → Contains files (record { name = name; contents = other }) → other ≡ text
-
+-- the key file of this name has this text
 abbrev pub IfFile : {F : Type 0} → Files F → List ℕ → (List ℕ → Type 0) → Type 0
-IfFile files name P = IfSome (files.told files.before) (λ told. (text : List ℕ) → IsFile told.files name text → P text)
+IfFile files name P = IfSome (files.told files.before) (λ told. (text : List ℕ) → IsFileOf told.files name text → P text)
 
 -- a ring has the keys that the options name
 pub record IsLawful (options : CallOptions) (text : List ℕ) (ring : List RingKey) (keys : Keys) : Type 0 where

@@ -1,9 +1,9 @@
 //! What became of a client's calls, as text.
 
-ghost use Rattle.std.specs.Prelude.{◌≡◌, ◌++◌, Some, length, IfOk, OnOk};
+ghost use Rattle.std.specs.Prelude.{◌≡◌, ◌++◌, IfOk, OnOk};
 ghost use Rattle.call_table.specs.Kept.{shown};
-ghost use Rattle.call_table.specs.Table.{Call, IsGiven, state_at};
-ghost use Rattle.client_node.specs.Standing.{StandsFor, kept_of};
+ghost use Rattle.call_table.specs.Table.{Call};
+ghost use Rattle.client_node.specs.Standing.{StandsFor};
 ghost use Rattle.client_rules.specs.Client.{Client, calls_of};
 ghost use Rattle.world_rules.specs.Report.{is_done};
 ghost use Rattle.cmd_call.specs.Table.{are_done, table, table_line};
@@ -23,9 +23,9 @@ pub(crate) fn table(alloc: Global, holder: &Holder) -> Result<Octets, Memory>
     ensures { (whole : Client) → StandsFor holder.now whole → IfOk result (λ text. text ≡ table (calls_of whole)) }
 {
     let mut text = Octets::new(alloc);
-    for place in 0..count(holder) {
+    for place in 0..holder.calls() {
         let number = place as u64 + 1;
-        let told = state(holder, CallNo { n: number });
+        let told = holder.state(CallNo { n: number });
         push_line(alloc, &mut text, number, &told)?;
     }
     Ok(text)
@@ -35,11 +35,11 @@ pub(crate) fn table(alloc: Global, holder: &Holder) -> Result<Octets, Memory>
 pub(crate) fn are_done(holder: &Holder) -> bool
     ensures { (whole : Client) → StandsFor holder.now whole → result ≡ are_done (calls_of whole) }
 {
-    for place in 0..count(holder) {
+    for place in 0..holder.calls() {
         let call = CallNo {
             n: place as u64 + 1,
         };
-        if !is_done(&state(holder, call)) {
+        if !is_done(&holder.state(call)) {
             return false;
         }
     }
@@ -51,30 +51,6 @@ fn is_done(state: &CallState<'_>) -> bool
     ensures { result ≡ is_done (shown state.now) }
 {
     matches!(state, CallState::Done(_))
-}
-
-/// How many calls a client has.
-fn count(client: &Holder) -> u32
-    ensures kept { result ≡ length (kept_of client.now).calls.rows }
-    ensures count { (whole : Client) → StandsFor client.now whole → result ≡ length (calls_of whole) }
-{
-    match client {
-        Holder::Opening(client) => client.calls(),
-        Holder::Open(client) => client.calls(),
-        Holder::Ended(client) => client.calls(),
-    }
-}
-
-/// What became of a call of a client.
-fn state(client: &Holder, call: CallNo) -> CallState<'_>
-    requires given { IsGiven call (kept_of client.now).calls.rows }
-    ensures { (whole : Client) → StandsFor client.now whole → state_at call (calls_of whole) ≡ Some (shown result) }
-{
-    match client {
-        Holder::Opening(client) => client.state(call),
-        Holder::Open(client) => client.state(call),
-        Holder::Ended(client) => client.state(call),
-    }
 }
 
 /// Puts the line of a call behind a text.

@@ -1,6 +1,6 @@
 -- What `check` owes to the bytes of its input.
-use Rattle.std.specs.Prelude.{◌≡◌, ◌<◌, ◌≤◌, ◌⊎◌, ℕ, codes, decimal, List, ◌++◌, length}
-use Rattle.statuses.specs.Lines.{bad_line, input_bytes_max, too_long}
+use Rattle.std.specs.Prelude.{◌≡◌, ◌≤◌, ◌⊎◌, ℕ, codes, decimal, List, ◌++◌, length}
+use Rattle.statuses.specs.Lines.{IsTooLong, bad_line, input_bytes_max}
 use Rattle.statuses.specs.declared.status.Status.{Status}
 use Rattle.statuses.specs.declared.status.Status.TheVariants as status
 use Rattle.trace_check.specs.Answers.{AllHoldIn, HasBadLine, IsBrokenIn}
@@ -29,11 +29,6 @@ pub record BreaksAt (text : List ℕ) (clause line : ℕ) : Type 0 where
   pub broken : IsBrokenIn text clause line
 
 -- ---- any other text
-
--- more bytes than a trace may have
-pub record IsTooLong (text due : List ℕ) : Type 0 where
-  pub long : input_bytes_max < length text
-  pub told : due ≡ too_long
 
 -- the first line that says no fact, or one that may not stand there
 pub record HasBadLineAt (text : List ℕ) (line : ℕ) (due : List ℕ) : Type 0 where

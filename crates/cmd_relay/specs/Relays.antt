@@ -1,6 +1,6 @@
 -- What a relay makes of a capture, line by line.
 use Rattle.std.specs.Prelude.{◌≡◌, ◌<◌, ◌≤◌, ◌⊎◌, ⊤, ℕ, List, [], ◌∷◌, ◌++◌, length, codes}
-use Rattle.statuses.specs.Lines.{bad_line, input_bytes_max, refusal_line, too_long}
+use Rattle.statuses.specs.Lines.{IsTooLong, bad_line, input_bytes_max, refusal_line}
 use Rattle.statuses.specs.declared.status.Status.{Status}
 use Rattle.statuses.specs.declared.status.Status.TheVariants as status
 use Rattle.transport.specs.declared.form.Form.{Form}
@@ -79,11 +79,6 @@ pub record IsRelayed (form : Form) (secret text due : List ℕ) : Type 0 where
   pub outs : List (List ℕ)
   pub taken : AreTaken form secret pieces outs nothing
   pub told : due ≡ text_of pieces outs
-
--- more bytes than a capture may have
-pub record IsTooLong (text due : List ℕ) : Type 0 where
-  pub long : input_bytes_max < length text
-  pub told : due ≡ too_long
 
 -- the first line outside the grammar
 pub record HasBadLineAt (text due : List ℕ) : Type 0 where

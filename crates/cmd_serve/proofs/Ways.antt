@@ -47,7 +47,7 @@ same-line one text line other refused again =
 
 -- what the file of a name says, by what one of the name says
 only-text : (told : FilesTold) (name text : List ℕ) (P : List ℕ → Type 0) → IsFileOf told.files name text → HasText (Some told) name P → P text
-only-text told name text P is has = subst P (is.only has.0 has.1) has.2
+only-text told name text P is has = subst P (is has.0 has.1) has.2
 
 -- ---- what is read
 

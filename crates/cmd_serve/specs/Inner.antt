@@ -13,7 +13,7 @@ use Rattle.regs_service.specs.Registers as registers
 use Rattle.server_core.specs.declared.desk.DeskFault.{DeskFault}
 use Rattle.server_core.specs.declared.desk.DeskFault.TheVariants as faults
 use Rattle.server_rules.specs.Server.{Server}
-use Rattle.sess_journal.specs.Keeping.{Seen, StandsFor, count_of, disk_in, place_by}
+use Rattle.sess_journal.specs.Keeping.{Seen, StandsFor, count_of, disk_in, journal_bytes_max, place_by}
 use Rattle.sess_records.specs.Calls.{HasCause}
 use Rattle.sess_records.specs.Format.{Spells}
 use Rattle.sess_records.specs.Seen.{File}
@@ -32,7 +32,7 @@ use Rattle.server_node.specs.declared.conn.ConnEnd.TheVariants as ends
 use Rattle.cmd_serve.specs.Connections.{AllGoOn, AreConnections, AreNoted, AreNotedBy, Between, Connection, CountsEnding, EndsBy, IsConnection, IsNoted, behind_all}
 use Rattle.cmd_serve.specs.Lines.{journal_fault, listening, not_listening}
 use Rattle.cmd_serve.specs.Packets.{outside_of}
-use Rattle.cmd_serve.specs.Journals.{AsksClock, Drawing, HoldsSome, IsFilled, IsOpen, IsUnlawful, Keeping, SeedsBy, SpellsServer, StartsBy, basis_of, Unopened, Faulty, Foreign, Starved, New, Old}
+use Rattle.cmd_serve.specs.Journals.{AsksClock, Drawing, HoldsSome, IsFilled, IsOpen, IsUnlawful, Keeping, SeedsBy, SpellsServer, StartsBy, basis_of, event_bytes_max, Unopened, Faulty, Foreign, Starved, New, Old}
 use Rattle.cmd_serve.specs.Runs.{Calls, CountsDisks, Course, Unread, Refused, Unbegun, Shut, Deaf, Mute, Serves, Draws, Ends, FailsNever, FailsOnce, GoesBy, IfTold, IsBroken, IsFull, IsServed, Moments, Registers, ServesBy}
 use Rattle.cmd_serve.specs.declared.ending.Ending.{Ending}
 use Rattle.cmd_serve.specs.declared.ending.Ending.TheVariants.{Served, Stopped, NotTaken, Journal, Full, Memory}
@@ -146,7 +146,7 @@ ending_with full Full = Full
 
 -- an open journal that has no room for what one event may add to it
 abbrev pub HasNoRoom : {K : Type 0} → Option (File K) → Type 0
-HasNoRoom journal = IsSomeAnd journal (λ file. 268435456 < file.len + 1048598)
+HasNoRoom journal = IsSomeAnd journal (λ file. journal_bytes_max < file.len + event_bytes_max)
 
 -- a connection that ends by the desk ends by a call of its disk
 abbrev pub IsDiskEnd : Option ConnEnd → Type 0

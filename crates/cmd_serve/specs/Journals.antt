@@ -6,7 +6,7 @@ use Rattle.draws.specs.Draws.{draw_after, next_bytes}
 use Rattle.envelope.specs.Lock.{mt_lock}
 use Rattle.server_node.specs.Connection.{Gave}
 use Rattle.server_rules.specs.Server.{Server, fresh_server}
-use Rattle.sess_journal.specs.Keeping.{ending}
+use Rattle.sess_journal.specs.Keeping.{ending, journal_bytes_max}
 use Rattle.sess_journal.specs.Opening.{HaveSameRecords, IsLawfulFile}
 use Rattle.sess_records.specs.declared.records.Record.{Record}
 use Rattle.sess_records.specs.Format.{Spells}
@@ -118,10 +118,13 @@ pub record HoldsSome (name : List ℕ) (P : List ℕ → Type 0) (told : NamesTo
   pub holds : Holds name bytes told.files
   pub says : P bytes
 
--- Bytes that leave no room for what one event may add: a journal has at most 268,435,456 bytes, and an event adds at most 1,048,598,
--- of a packet of 1,048,576, the longest one that a frame has.
+-- the most bytes that one event adds: those of a packet of 1,048,576, the longest one that a frame has, and 22 beside it
+abbrev pub event_bytes_max : ℕ
+event_bytes_max = 1048598
+
+-- bytes that leave no room for what one event may add
 abbrev pub IsFilled : List ℕ → Type 0
-IsFilled bytes = 268435456 < length bytes + 1048598
+IsFilled bytes = journal_bytes_max < length bytes + event_bytes_max
 
 -- bytes that are no journal, nor lawful records, and the same ones at the return
 pub record StaysForeign {D : Type 0} (drawing : Drawing D) (ring : List RingKey) (name : List ℕ) (at : ℕ) (before after : NamesTold) : Type 0 where

@@ -14,11 +14,8 @@ use envelope::Seal;
 use msg_ids::Moment;
 use regs_service::Service;
 use server_core::{Desk, DeskFault, Effects, Reply};
-use sess_journal::Kept;
+use sess_journal::{JOURNAL_BYTES_MAX, Kept};
 use std::alloc::Global;
-
-/// How long a journal may be, in bytes.
-const JOURNAL_BYTES_MAX: u64 = 268_435_456;
 
 /// How many bytes one event adds to a journal at most: the longest packet, and 22 bytes beside it.
 const EVENT_BYTES_MAX: u64 = 1_048_598;

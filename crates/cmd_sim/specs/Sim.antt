@@ -1,5 +1,5 @@
 -- What `sim` owes to the bytes of its input.
-use Rattle.std.specs.Prelude.{◌≡◌, ◌<◌, ◌≤◌, ◌⊎◌, ℕ, Bool, Some, None, List, length}
+use Rattle.std.specs.Prelude.{◌≡◌, ◌≤◌, ◌⊎◌, ℕ, Bool, Some, None, List, length}
 use Rattle.sched_text.specs.declared.schedule.Placed.{Placed}
 use Rattle.sched_text.specs.Schedule.{HasBadLine, Spells}
 use Rattle.world_rules.specs.Once.{InOrder, Once}
@@ -8,7 +8,7 @@ use Rattle.world_rules.specs.Report.{refusal_text, whole_report}
 use Rattle.law_order.specs.Numbers.{GivesOnce, SaysNo19}
 use Rattle.statuses.specs.declared.status.Status.{Status}
 use Rattle.statuses.specs.declared.status.Status.TheVariants as status
-use Rattle.statuses.specs.Lines.{bad_line, input_bytes_max, refusal_line, too_long}
+use Rattle.statuses.specs.Lines.{IsTooLong, bad_line, input_bytes_max, refusal_line}
 use Rattle.cmd_sim.specs.Worlds.{sim_refused, sim_setting, sim_world}
 
 -- ---- a lawful schedule
@@ -33,11 +33,6 @@ pub record ExecutesOnce (events : List Placed) : Type 0 where
   pub no_notice_19 : SaysNo19 (sim_world events)
 
 -- ---- any other text
-
--- more bytes than a schedule may have
-pub record IsTooLong (text due : List ℕ) : Type 0 where
-  pub long : input_bytes_max < length text
-  pub told : due ≡ too_long
 
 -- the first line outside the grammar
 pub record HasBadLineAt (text : List ℕ) (line : ℕ) (due : List ℕ) : Type 0 where

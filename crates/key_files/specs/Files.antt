@@ -21,10 +21,9 @@ HasFile told name text = IfSome told (λ files. Contains files.files (record { n
 abbrev pub HasText : Option FilesTold → List ℕ → (List ℕ → Type 0) → Type 0
 HasText told name P = (text : List ℕ) × HasFile told name text × P text
 
--- the file of this name has this text, and no other of the name has another
-pub record IsFileOf (files : List NamedFile) (name text : List ℕ) : Type 0 where
-  pub there : Contains files (record { name = name; contents = text })
-  pub only : (other : List ℕ) → Contains files (record { name = name; contents = other }) → other ≡ text
+-- each file of this name has this text
+abbrev pub IsFileOf : List NamedFile → List ℕ → List ℕ → Type 0
+IsFileOf files name text = (other : List ℕ) → Contains files (record { name = name; contents = other }) → other ≡ text
 
 -- the line that a fault is on, but for want of memory
 abbrev pub line_of : KeyFault → Option ℕ

@@ -291,8 +291,8 @@ impl Client {
         }
     }
 
-    /// The client goes on in another session, whose number is drawn: of calls that are `Sent` it isn't known what became,
-    /// and the former session is to be destroyed. A packet that waits is still handed out.
+    /// The client goes on in another session, whose number is drawn: of calls that are `Sent` it isn't known what became, those
+    /// that are `Held` are `Queued`, and the former session is to be destroyed. A packet that waits is still handed out.
     ///
     /// # Errors
     ///
@@ -354,8 +354,7 @@ impl Client {
     ///
     /// # Errors
     ///
-    /// `Spent`, there may not be numbers for what is to be sent, and only the moment counts; `Memory`, and then it is the
-    /// client that it was.
+    /// `Spent`, there may not be numbers for what is to be sent; `Memory`. By both it is the client that it was.
     pub fn prepare_transmit(&mut self, alloc: Global, now: Moment) -> Result<(), Error>
         ensures waits { IfSome self.old.waiting (λ _. (result ≡ Ok tt) × (self.new ≡ self.old)) }
         ensures polls { (client : Rules) → Is self.old client → self.old.waiting ≡ None
@@ -411,8 +410,7 @@ impl Client {
     ///
     /// # Errors
     ///
-    /// `Spent`, there may not be numbers for what is to be sent, and only the moment counts; `Memory`, and then it is the
-    /// client that it was.
+    /// `Spent`, there may not be numbers for what is to be sent; `Memory`. By both it is the client that it was.
     pub fn poll_transmit(&mut self, alloc: Global, now: Moment) -> Result<Option<Octets>, Error>
         ensures handed { IfSome self.old.waiting (λ packet. (result ≡ Ok (Some packet)) × (self.new ≡ record self.old { waiting = None })) }
         ensures polls { (client : Rules) → Is self.old client → self.old.waiting ≡ None

@@ -18,6 +18,7 @@ use Rattle.inbox.specs.Refusals.{Way}
 use Rattle.server_rules.specs.Answer.{message_in, messages_judged}
 use Rattle.server_rules.specs.Server.{Session, remembered}
 use Rattle.law_server.specs.Lives.{request_of}
+use Rattle.law_server.specs.Order.{is_for_service}
 use Rattle.call_table.specs.Table.{Call, Name}
 use Rattle.client_rules.specs.Client.{calls_of}
 use Rattle.client_rules.specs.Filling.{body_behind}
@@ -25,7 +26,7 @@ use Rattle.law_moves.specs.Table as moves
 use Rattle.law_moves.specs.World.{World as Moved, IsName}
 use Rattle.law_client.specs.Sent.{Asks, IsPacketSent, IsSent, WasSent}
 use Rattle.law_server_moves.specs.Servers.{IsPacketUp, IsUp}
-use Rattle.law_order.specs.After.{IsFor, IsPacketFor, Pair, awaited, is_among, is_aside, is_query}
+use Rattle.law_order.specs.After.{IsFor, IsPacketFor, Pair, awaited, is_among, is_aside}
 use Rattle.law_order.specs.Going.{IsFrom, IsPacketFrom}
 use Rattle.world_rules.specs.Setting.{as_heard}
 use Rattle.world_rules.specs.World.{Packet, Seat, World}
@@ -45,7 +46,7 @@ aside-asks (AuthBindTempAuthKey perm nonce expires message) body is = refl
 aside-asks (RpcDropAnswer call) body is = refl
 aside-asks item body is = absurd (true-false (sym is))
 
-container-told : (body : List ℕ) → begins_container body ≡ true → is_query (item_told body) ≡ true → ⊥
+container-told : (body : List ℕ) → begins_container body ≡ true → is_for_service (item_told body) ≡ true → ⊥
 container-told body begins query = true-false (sym (rw begins at query))
 
 -- the newest name of a call, with the number for which its message waits
@@ -69,7 +70,7 @@ module _ {S V : Type 0} (laws : Bytes-laws) (apart : Apart) (up : (ups : List mo
 
   -- what is to hold of a message
   abbrev WaitsSo : ℕ → List ℕ → Type 0
-  WaitsSo n body = n < 2 ^ 64 → n ≡ name.message.number → is_query (item_told body) ≡ true → is_among number (awaited (item_told body)) ≡ true
+  WaitsSo n body = n < 2 ^ 64 → n ≡ name.message.number → is_for_service (item_told body) ≡ true → is_among number (awaited (item_told body)) ≡ true
 
   among-own : is_among number (number ∷ []) ≡ true
   among-own = rw (eq-eqb number number refl) refl

@@ -3,7 +3,7 @@ use Rattle.std.specs.Prelude.{◌≡◌, ◌==◌, ◌&&◌, ℕ, Bool, true, fa
 use Rattle.std.specs.Prelude.{◌⊎◌}
 use Rattle.std.specs.List.{AllByRecursion, list_any}
 use Rattle.service_tl.specs.declared.item.Item.{Item}
-use Rattle.service_tl.specs.declared.item.Item.TheVariants.{RpcDropAnswer, InvokeAfterMsg, InvokeAfterMsgs, AuthBindTempAuthKey, Call}
+use Rattle.service_tl.specs.declared.item.Item.TheVariants.{RpcDropAnswer, InvokeAfterMsg, InvokeAfterMsgs, AuthBindTempAuthKey}
 use Rattle.inbox.specs.Kinds.{item_told}
 use Rattle.inbox.specs.Refusals.{Way}
 use Rattle.waits.specs.declared.job.Unfinished.{Unfinished}
@@ -13,6 +13,7 @@ use Rattle.service_tl.specs.Results.{is_good}
 use Rattle.server_rules.specs.Event.{Entry, Envelope}
 use Rattle.server_rules.specs.Events.{Event, Packet}
 use Rattle.server_rules.specs.Answer.{message_in, messages_judged, name_in}
+use Rattle.law_server.specs.Order.{is_for_service}
 
 -- two messages of a session by their numbers: a call, and the one after which it is to run
 pub record Pair : Type 0 where
@@ -32,13 +33,6 @@ awaited _ = []
 abbrev pub is_among : ℕ → List ℕ → Bool
 is_among number numbers = list_any (λ other. other == number) numbers
 
--- a call for the service
-abbrev pub is_query : Item → Bool
-is_query Call = true
-is_query (InvokeAfterMsg other query) = true
-is_query (InvokeAfterMsgs others query) = true
-is_query _ = false
-
 -- It may be answered well without having run: a binding call, or a request to drop an answer.
 abbrev pub is_aside : Item → Bool
 is_aside (AuthBindTempAuthKey perm nonce expires message) = true
@@ -47,7 +41,7 @@ is_aside _ = false
 
 -- an item under this number: as the call it waits for the earlier one, as the earlier one it is answered well only by a run
 pub record IsFor (pair : Pair) (number : ℕ) (item : Item) : Type 0 where
-  pub waits : number ≡ pair.call → is_query item ≡ true → is_among pair.earlier (awaited item) ≡ true
+  pub waits : number ≡ pair.call → is_for_service item ≡ true → is_among pair.earlier (awaited item) ≡ true
   pub runs : number ≡ pair.earlier → is_aside item ≡ false
 
 -- so are all messages that may be judged of a packet of the session

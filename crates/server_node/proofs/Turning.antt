@@ -2,13 +2,14 @@
 use Rattle.std.proofs.Common.{◌≡◌, ◌≢◌, ◌<◌, ◌+◌, ℕ, zero, suc, List, [], ◌∷◌, ◌++◌, length, All, Option, Some, None, IfSome, IsSomeAnd, inl, inr, refl, sym, ap, subst, ◌∙◌, append_assoc, append-nil, length-append, arith}
 use Rattle.std.proofs.lemmas.List.Elements.{All-append}
 use Rattle.mt_edge.specs.Links.{Told, ReadsOver}
+use Rattle.mt_edge.specs.Reads.{IsPiece as GaveBytes}
 use Rattle.mt_edge.specs.declared.link_read.LinkRead.{LinkRead}
 use Rattle.mt_edge.specs.declared.source.Got.{Got}
 use Rattle.mt_edge.specs.declared.source.Got.TheVariants.{Bytes, End, Failed}
 use Rattle.server_core.specs.declared.desk.DeskFault.{DeskFault}
 use Rattle.server_core.specs.declared.desk.DeskFault.TheVariants as faults
 use Rattle.server_node.specs.Doing.{IsPieceEnd, IsTurnEnd}
-use Rattle.server_node.specs.Record.{IsBytes, IsLast, IsPiece, IsTurn, ReadTo, Turned}
+use Rattle.server_node.specs.Record.{IsLast, IsPiece, IsTurn, ReadTo, Turned}
 use Rattle.server_node.specs.Writes.{CountsBy, OnlyWrites}
 use Rattle.server_node.specs.declared.conn.ConnEnd.{ConnEnd}
 use Rattle.server_node.specs.declared.conn.ConnEnd.TheVariants as ends
@@ -137,7 +138,7 @@ read_as read room answer same is = ap (λ (n : ℕ). (record { room = n; answer 
 by_fault : (count room : ℕ) (first middle last : Told) (answer : Got) → room ≡ 65536 → count < 1000000 → PiecesRead count first middle
     → (turn : Turned (Some ends.LinkFault) room middle last) → turn.read.answer ≡ answer → (answer ≢ End) → ReadTo ends.LinkFault first last
 by_fault count room first middle last (Bytes n) size few before turn is other =
-    ended_by_piece ends.LinkFault count room first middle last size few before turn (turn.offered ∙ size, subst IsBytes (sym is) tt) (λ same. absurd cc) (inl refl)
+    ended_by_piece ends.LinkFault count room first middle last size few before turn (turn.offered ∙ size, subst GaveBytes (sym is) tt) (λ same. absurd cc) (inl refl)
 by_fault count room first middle last Failed size few before turn is other =
     ended_by_read ends.LinkFault count room first middle last few before turn (λ same. absurd cc) (inr (read_as turn.read 65536 Failed (turn.offered ∙ size) is))
 by_fault count room first middle last End size few before turn is other = absurd (other refl)

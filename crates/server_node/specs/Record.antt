@@ -1,9 +1,10 @@
 -- The reads of a connection, as its link tells them.
 use Rattle.std.specs.Prelude.{◌≡◌, ◌≢◌, ◌<◌, ◌≤◌, ◌+◌, ◌-◌, ◌⊎◌, ℕ, List, [], ◌∷◌, ◌++◌, length, All, Option, Some, None, ⊤}
 use Rattle.mt_edge.specs.Links.{Told}
+use Rattle.mt_edge.specs.Reads.{IsPiece as GaveBytes}
 use Rattle.mt_edge.specs.declared.link_read.LinkRead.{LinkRead}
 use Rattle.mt_edge.specs.declared.source.Got.{Got}
-use Rattle.mt_edge.specs.declared.source.Got.TheVariants.{Bytes, End, Failed}
+use Rattle.mt_edge.specs.declared.source.Got.TheVariants.{End, Failed}
 use Rattle.server_node.specs.declared.conn.ConnEnd.{ConnEnd}
 use Rattle.server_node.specs.declared.conn.ConnEnd.TheVariants as ends
 
@@ -15,14 +16,9 @@ piece_bytes = 65536
 abbrev pub turns_max : ℕ
 turns_max = 1000000
 
-abbrev pub IsBytes : Got → Type 0
-IsBytes (Bytes n) = ⊤
-IsBytes End = ⊥
-IsBytes Failed = ⊥
-
 -- a read that gave a piece
 abbrev pub IsPiece : LinkRead → Type 0
-IsPiece read = (read.room ≡ piece_bytes) × IsBytes read.answer
+IsPiece read = (read.room ≡ piece_bytes) × GaveBytes read.answer
 
 -- the read behind the pieces: one that came to the end exactly where the connection ended by that, and one that failed only
 -- where it ended by a fault of the link
@@ -41,13 +37,13 @@ IsLast ends.Memory reads = reads ≡ []
 abbrev pub IsTurn : Option ConnEnd → Got → Type 0
 IsTurn (Some ends.Ended) answer = answer ≡ End
 IsTurn (Some ends.LinkFault) answer = answer ≢ End
-IsTurn None answer = IsBytes answer
-IsTurn (Some (ends.Frame fault)) answer = IsBytes answer
-IsTurn (Some ends.Start) answer = IsBytes answer
-IsTurn (Some ends.TurnsSpent) answer = IsBytes answer
-IsTurn (Some ends.Stopped) answer = IsBytes answer
-IsTurn (Some (ends.Journal fault)) answer = IsBytes answer
-IsTurn (Some ends.Memory) answer = IsBytes answer
+IsTurn None answer = GaveBytes answer
+IsTurn (Some (ends.Frame fault)) answer = GaveBytes answer
+IsTurn (Some ends.Start) answer = GaveBytes answer
+IsTurn (Some ends.TurnsSpent) answer = GaveBytes answer
+IsTurn (Some ends.Stopped) answer = GaveBytes answer
+IsTurn (Some (ends.Journal fault)) answer = GaveBytes answer
+IsTurn (Some ends.Memory) answer = GaveBytes answer
 
 -- one read of so much room, and writes
 pub record Turned (end : Option ConnEnd) (room : ℕ) (before after : Told) : Type 0 where

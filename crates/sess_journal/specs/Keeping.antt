@@ -129,9 +129,13 @@ pub record Opened {K S D : Type 0} (bases : Bases S D) (told : K → Option Disk
 abbrev pub IsClosed : {K : Type 0} → Book K → Type 0
 IsClosed book = book.journal ≡ None
 
+-- how long a journal may be, in bytes
+abbrev pub journal_bytes_max : ℕ
+journal_bytes_max = 268435456
+
 -- it has this length, and so many bytes more would be too many
 abbrev pub IsFull : {K : Type 0} → Book K → ℕ → ℕ → Type 0
-IsFull book bytes len = IsSomeAnd book.journal (λ file. (len ≡ file.len) × (268435456 < len + bytes))
+IsFull book bytes len = IsSomeAnd book.journal (λ file. (len ≡ file.len) × (journal_bytes_max < len + bytes))
 
 -- A call answers `Closed` exactly where the journal is closed, and `Full` exactly where it has no room for so many bytes more.
 pub record Refuses {K A : Type 0} (bytes : ℕ) (book : Book K) (result : Result A DeskFault) : Type 0 where

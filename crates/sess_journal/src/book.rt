@@ -6,7 +6,7 @@ ghost use Rattle.sess_records.specs.declared.records.Record.{Record};
 ghost use Rattle.sess_records.specs.Calls.{event_in};
 ghost use Rattle.sess_records.specs.Format.{IsEvent, size_of};
 ghost use Rattle.sess_records.specs.Standing.{Holds, LeavesOneOf};
-ghost use Rattle.sess_journal.specs.Keeping.{Added, HasCounted, IsSameDisk, OfDisks, disk_in};
+ghost use Rattle.sess_journal.specs.Keeping.{Added, HasCounted, IsSameDisk, OfDisks, disk_in, journal_bytes_max};
 
 use disks::Disk;
 use server_core::DeskFault;
@@ -14,7 +14,7 @@ use sess_records::{Event, Journal};
 use std::marker::Model;
 
 /// How long a journal may be, in bytes.
-const JOURNAL_BYTES_MAX: u64 = 268_435_456;
+pub const JOURNAL_BYTES_MAX: u64 = 268_435_456;
 
 /// The journal of a desk, until a call of its disk fails, and the disk from then on.
 #[derive(Drop)]
@@ -67,8 +67,8 @@ impl<K: Disk + Drop> Book<K> {
     ///
     /// `Closed`, and then `Full`.
     pub(crate) fn seed_with_room(&self, bytes: u64) -> Result<[u8; 32], DeskFault>
-        ensures open { IfOk result (λ seed. IsSomeAnd self.now.journal (λ file. (seed ≡ file.seed) × (file.len + bytes ≤ 268435456))) }
-        ensures refused { IfErr result (λ fault. MatchOption self.now.journal (fault ≡ faults.Closed) (λ file. (fault ≡ faults.Full file.len) × (268435456 < file.len + bytes))) }
+        ensures open { IfOk result (λ seed. IsSomeAnd self.now.journal (λ file. (seed ≡ file.seed) × (file.len + bytes ≤ journal_bytes_max))) }
+        ensures refused { IfErr result (λ fault. MatchOption self.now.journal (fault ≡ faults.Closed) (λ file. (fault ≡ faults.Full file.len) × (journal_bytes_max < file.len + bytes))) }
     {
         let Some(journal) = &self.journal else {
             return Err(DeskFault::Closed);
@@ -93,7 +93,7 @@ impl<K: Disk + Drop> Book<K> {
     ) -> Result<(), DeskFault>
         requires open { is_some self.old.journal ≡ true }
         requires lawful { IsEvent (event_in event) }
-        requires room { IfSome self.old.journal (λ file. file.len + size_of (event_in event) ≤ 268435456) }
+        requires room { IfSome self.old.journal (λ file. file.len + size_of (event_in event) ≤ journal_bytes_max) }
         ensures added { OnOk result (IfSome self.old.journal (λ before. IsSomeAnd self.new.journal (Added K.told before (record { moment = moment; place = place; event = event_in event.entry })))) }
         ensures disk { IfErr result (λ fault. fault ≡ faults.Disk) }
         ensures counted { HasCounted K.faults result self.old self.new }

@@ -19,5 +19,6 @@ mod recorded;
 mod runs;
 mod staging;
 
+pub use book::JOURNAL_BYTES_MAX;
 pub use kept::Kept;
 pub use sess_records::JournalFault;

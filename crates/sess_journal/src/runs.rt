@@ -9,7 +9,7 @@ ghost use Rattle.server_rules.specs.Server.{Server as Rules};
 ghost use Rattle.server_session.specs.Says.{Keys, setting_of};
 ghost use Rattle.server_core.specs.declared.desk.DeskFault.TheVariants as faults;
 ghost use Rattle.server_core.specs.Desks.{Does};
-ghost use Rattle.sess_journal.specs.Keeping.{HasBegun, HasCounted, IfNothingDone, IsAfterBegin, IsSameDisk, Journals, KeepsFor, OfDisks, Refuses, entry_at, reply_at};
+ghost use Rattle.sess_journal.specs.Keeping.{HasBegun, HasCounted, IfNothingDone, IsAfterBegin, IsSameDisk, Journals, KeepsFor, OfDisks, Refuses, entry_at, journal_bytes_max, reply_at};
 ghost use Rattle.sess_journal.specs.Replay.{bases_of};
 
 use crate::kept::Kept;
@@ -89,8 +89,8 @@ impl<K: Disk + Drop, S: Seal + Drop, D: Seeded + Drop> Kept<K, S, D> {
             × HasBegun (bases_of S.lock S.keys D.step D.standing_at D.place_of) K.told (entries ++ entry_at D.place_of self.old now (Begin k) ∷ []) k self.new server) }
         ensures not_memory { IfErr result (λ fault. fault ≡ faults.Memory → ⊥) }
         ensures unchanged { IfErr result (IfNothingDone (self.new ≡ self.old)) }
-        ensures seed { IfOk result (λ seed. IsSomeAnd self.old.book.journal (λ file. (seed ≡ file.seed) × (file.len + 262196 ≤ 268435456))) }
-        ensures open { IfOk result (λ seed. IsSomeAnd self.new.book.journal (λ file. (seed ≡ file.seed) × (file.len + 262166 ≤ 268435456))) }
+        ensures seed { IfOk result (λ seed. IsSomeAnd self.old.book.journal (λ file. (seed ≡ file.seed) × (file.len + 262196 ≤ journal_bytes_max))) }
+        ensures open { IfOk result (λ seed. IsSomeAnd self.new.book.journal (λ file. (seed ≡ file.seed) × (file.len + 262166 ≤ journal_bytes_max))) }
         ensures same { self.new ≡ record self.old { book = self.new.book } }
         ensures counted { HasCounted K.faults result self.old.book self.new.book }
         ensures same_disk { OfDisks self.old.book self.new.book (IsSameDisk K.told K.place) }
@@ -115,7 +115,7 @@ impl<K: Disk + Drop, S: Seal + Drop, D: Seeded + Drop> Kept<K, S, D> {
         seed: &[u8; 32],
     ) -> Result<Effects, DeskFault>
         requires ready { k < ready_count self.old.server.jobs }
-        requires open { IsSomeAnd self.old.book.journal (λ file. (seed.now ≡ file.seed) × (file.len + 262166 ≤ 268435456)) }
+        requires open { IsSomeAnd self.old.book.journal (λ file. (seed.now ≡ file.seed) × (file.len + 262166 ≤ journal_bytes_max)) }
         ensures refused { IfErr result IsAfterBegin }
         ensures journal { (entries : List Record) (server : Rules) → HasBegun (bases_of S.lock S.keys D.step D.standing_at D.place_of) K.told entries k self.old server
             → Journals (bases_of S.lock S.keys D.step D.standing_at D.place_of) K.told entries (entry_at D.place_of self.old now (Ran (reply_at V.step service.old k server.jobs)) ∷ []) [] server self.old self.new result (λ effects more.

@@ -1,15 +1,12 @@
 //! The lines of a client's calls.
 
-ghost use Rattle.std.specs.Prelude.{◌≡◌, ◌++◌, Some, OnOk, OnErr, length, take};
-ghost use Rattle.call_table.specs.Kept.{shown};
-ghost use Rattle.call_table.specs.Table.{IsGiven, state_at};
+ghost use Rattle.std.specs.Prelude.{◌≡◌, ◌++◌, OnOk, OnErr, length, take};
 ghost use Rattle.client_rules.specs.Client.{Client, calls_of};
 ghost use Rattle.world_rules.specs.Report.{call_lines};
-ghost use Rattle.client_core.specs.Holding.{kept_of};
 ghost use Rattle.sim_text.specs.Clients.{StandsFor};
 
 use crate::call::call_line;
-use call_table::{CallNo, CallState};
+use call_table::CallNo;
 use client_core::Holder;
 use octets::{Memory, Octets};
 use std::alloc::Global;
@@ -19,7 +16,7 @@ use std::alloc::Global;
 /// # Errors
 ///
 /// `Memory`, and then the text is as it was.
-pub fn calls_of_client(
+pub(crate) fn calls_of_client(
     alloc: Global,
     into: &mut Octets,
     client: u64,
@@ -42,34 +39,10 @@ fn push_calls(alloc: Global, text: &mut Octets, client: u64, holder: &Holder) ->
     ensures told { (whole : Client) → StandsFor holder.now whole → OnOk result (text.new ≡ text.old ++ call_lines client 1 (calls_of whole)) }
     ensures front { take (length text.old) text.new ≡ text.old }
 {
-    for place in 0..count(holder) {
+    for place in 0..holder.calls() {
         let number = place as u64 + 1;
-        let told = state(holder, CallNo { n: number });
+        let told = holder.state(CallNo { n: number });
         call_line(alloc, text, client, number, &told)?;
     }
     Ok(())
-}
-
-/// How many calls a client has.
-pub(crate) fn count(client: &Holder) -> u32
-    ensures kept { result ≡ length (kept_of client.now).calls.rows }
-    ensures count { (whole : Client) → StandsFor client.now whole → result ≡ length (calls_of whole) }
-{
-    match client {
-        Holder::Opening(client) => client.calls(),
-        Holder::Open(client) => client.calls(),
-        Holder::Ended(client) => client.calls(),
-    }
-}
-
-/// What became of a call of a client.
-pub(crate) fn state(client: &Holder, call: CallNo) -> CallState<'_>
-    requires given { IsGiven call (kept_of client.now).calls.rows }
-    ensures { (whole : Client) → StandsFor client.now whole → state_at call (calls_of whole) ≡ Some (shown result) }
-{
-    match client {
-        Holder::Opening(client) => client.state(call),
-        Holder::Open(client) => client.state(call),
-        Holder::Ended(client) => client.state(call),
-    }
 }

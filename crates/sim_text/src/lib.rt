@@ -15,7 +15,6 @@ mod summary;
 mod wire;
 
 pub use call::{call_line, state_text};
-pub use client::calls_of_client;
 pub use clients::{Clients, lines_of_clients};
 pub use entry::{EntryLine, entry_line};
 pub use fault::submit_cause;

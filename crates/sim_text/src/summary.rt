@@ -7,7 +7,6 @@ ghost use Rattle.call_table.specs.Table.{Call};
 ghost use Rattle.client_rules.specs.Client.{Client, calls_of};
 ghost use Rattle.sim_text.specs.Clients.{StandsFor};
 
-use crate::client::{count, state};
 use crate::number::push_number;
 use call_table::{CallNo, CallState};
 use client_core::Holder;
@@ -57,9 +56,9 @@ impl Counts {
         ensures counted { (whole : Client) (before : List Call) → StandsFor holder.now whole → self.old ≡ tally_of before → self.new ≡ tally_of (before ++ calls_of whole) }
         ensures few { self.new.calls < self.old.calls + 2 ^ 32 }
     {
-        for place in 0..count(holder) {
+        for place in 0..holder.calls() {
             let number = place as u64 + 1;
-            let told = state(holder, CallNo { n: number });
+            let told = holder.state(CallNo { n: number });
             self.note(&told);
         }
     }

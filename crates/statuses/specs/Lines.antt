@@ -1,5 +1,5 @@
 -- Lines that tell why an input is refused.
-use Rattle.std.specs.Prelude.{ℕ, codes, decimal, List, ◌++◌}
+use Rattle.std.specs.Prelude.{◌≡◌, ◌<◌, ℕ, codes, decimal, List, ◌++◌, length}
 
 -- the most bytes of an input
 abbrev pub input_bytes_max : ℕ
@@ -16,6 +16,11 @@ bad_line line = refusal_line line (codes "bad line")
 -- an input of more bytes
 abbrev pub too_long : List ℕ
 too_long = codes "input too long\n"
+
+-- more bytes than an input may have, and the line that tells of it
+pub record IsTooLong (text due : List ℕ) : Type 0 where
+  pub long : input_bytes_max < length text
+  pub told : due ≡ too_long
 
 -- words that say no command
 abbrev pub words_refused : List ℕ

@@ -8,8 +8,9 @@ use mt_edge::{
 };
 use mtp_app::run;
 use octets::Octets;
-use std::alloc::{AllocError, Global};
+use std::alloc::Global;
 use std::test::Fail;
+use test_lines::words_of;
 
 /// The bytes of the first answer and of the attach behind it, in frames: each read of a client gives so many at most.
 const PIECE_BYTES: usize = 280;
@@ -63,12 +64,6 @@ fn written(net: &MemNet) -> &[u8] {
         ) => told.written(),
         _ => &[],
     }
-}
-
-fn words_of(alloc: Global, line: &str) -> Result<Vec<String>, AllocError> {
-    line.split(' ')
-        .map(|word| String::from_str(alloc, word))
-        .try_collect(alloc)
 }
 
 /// What a run has beside its words, its texts, its files and its net.

@@ -318,17 +318,10 @@ pub(crate) fn hears_line<S: Seal>(
 
 // What became of a call.
 fn state(holder: &Holder, n: u64) -> Option<CallState<'_>> {
-    let call = CallNo { n };
-    match holder {
-        Holder::Opening(client) if n > 0 && n <= u64::from(client.calls()) => {
-            Some(client.state(call))
-        }
-        Holder::Open(client) if n > 0 && n <= u64::from(client.calls()) => Some(client.state(call)),
-        Holder::Ended(client) if n > 0 && n <= u64::from(client.calls()) => {
-            Some(client.state(call))
-        }
-        _ => None,
+    if n == 0 || n > u64::from(holder.calls()) {
+        return None;
     }
+    Some(holder.state(CallNo { n }))
 }
 
 /// What became of a call of a client as text.

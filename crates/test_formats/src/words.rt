@@ -4,9 +4,10 @@ ghost use Rattle.std.specs.Prelude.{◌≡◌, ◌⊎◌, IfOk, map, string_byte
 ghost use Rattle.commands.specs.Says.{Says};
 
 use commands::{Command, Page, WordsFault, read, version};
-use std::alloc::{AllocError, Global};
+use std::alloc::Global;
 use std::test::Fail;
 use test_asserts::{holds, holds_at, same, same_at, shown};
+use test_lines::words_of;
 
 // How many calls the words want of `load`, or 0.
 fn calls_wanted(alloc: Global, words: &[String]) -> Result<u32, WordsFault>
@@ -16,13 +17,6 @@ fn calls_wanted(alloc: Global, words: &[String]) -> Result<u32, WordsFault>
         Command::Load { calls } => Ok(calls),
         _ => Ok(0),
     }
-}
-
-// The words of a line.
-fn words_of(alloc: Global, line: &str) -> Result<Vec<String>, AllocError> {
-    line.split(' ')
-        .map(|word| String::from_str(alloc, word))
-        .try_collect(alloc)
 }
 
 #[test]

@@ -32,7 +32,7 @@ fn copies(server: &Server, text: &mut Text) -> Result<(), Fail> {
     }
 }
 
-/// The request that was handed out is answered, or the server tells of its requests: whether the line asked for that.
+/// The request that was handed out is answered, or the server tells of its requests or of its draw: whether the line asked for that.
 pub(crate) fn is_answered(
     server: &mut Server,
     line: &mut Line<'_>,
@@ -47,6 +47,7 @@ pub(crate) fn is_answered(
         }
         "asked" => copies(server, text)?,
         "ready" => text.tell_number("ready", server.ready() as u64)?,
+        "draw" => text.tell_draw(server)?,
         _ => return Ok(false),
     }
     Ok(true)

@@ -1,6 +1,6 @@
 //! What goes out as text.
 
-use kifzaro::Error;
+use kifzaro::{Error, Server};
 use std::alloc::Global;
 use std::test::Fail;
 
@@ -39,6 +39,14 @@ impl Text {
         self.written.push_str(word)?;
         self.written.push_str(" ")?;
         self.tell(digits.as_str())
+    }
+
+    /// Adds a line of the draw of a server, as `{:?}` shows it.
+    pub(crate) fn tell_draw(&mut self, server: &Server) -> Result<(), Fail> {
+        let shown = format!(in self.alloc; "{server:?}")?;
+        let (_, behind) = shown.as_str().split_once(", words: ").ok_or("no draw")?;
+        let (words, _) = behind.split_once(", queue: ").ok_or("no queue")?;
+        self.tell(words)
     }
 
     /// Adds a line of what an error tells.

@@ -1,9 +1,9 @@
-//! A line of a case that a program of tests plays: its first word, and the words that are left. Bytes stand in it as hexadecimal
-//! digits.
+//! What programs of tests read: lines of cases, each a first word and the words that are left, with bytes as hexadecimal digits;
+//! and words of command lines.
 #![tactic(auto)]
 
 use octets::Octets;
-use std::alloc::Global;
+use std::alloc::{AllocError, Global};
 use std::test::Fail;
 
 /// A line: its first word, and the words that are left, with a blank between them. Its bytes are taken from an allocator.
@@ -89,6 +89,17 @@ impl<'a> Line<'a> {
     pub fn bytes(&mut self) -> Result<Octets, Fail> {
         bytes_of_pieces(self.alloc, self.word())
     }
+}
+
+/// The words of a line, with a blank between them.
+///
+/// # Errors
+///
+/// Where there is no memory.
+pub fn words_of(alloc: Global, line: &str) -> Result<Vec<String>, AllocError> {
+    line.split(' ')
+        .map(|word| String::from_str(alloc, word))
+        .try_collect(alloc)
 }
 
 // A number in decimal digits.

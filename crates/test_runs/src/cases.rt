@@ -1,14 +1,14 @@
 //! A case: what a run is given, line by line, and what it comes to.
 
 use crate::outside::{Faults, Stream};
-use crate::running::{Ended, Given, ran, starts, words_of};
+use crate::running::{Ended, Given, ran, starts};
 use disks::{MemDisks, MemFile};
 use mt_edge::MemKids;
 use octets::{Memory, Octets};
 use std::alloc::{AllocError, Global};
 use std::test::Fail;
 use test_keys::{bytes_from_0_to_255, line as key_line};
-use test_lines::Line;
+use test_lines::{Line, words_of};
 
 /// The most bytes of a read and of a write where a case says no other.
 const PIECE_BYTES: usize = 4_096;

@@ -8,7 +8,7 @@ use mt_edge::{
 };
 use mtp_app::run;
 use octets::Octets;
-use std::alloc::{AllocError, Global};
+use std::alloc::Global;
 use std::test::Fail;
 
 /// Room for what a run writes, in bytes.
@@ -113,13 +113,6 @@ pub(crate) fn ran(
         kids: outside.kids,
         disks: outside.disks,
     })
-}
-
-/// The words of a line.
-pub(crate) fn words_of(alloc: Global, line: &str) -> Result<Vec<String>, AllocError> {
-    line.split(' ')
-        .map(|word| String::from_str(alloc, word))
-        .try_collect(alloc)
 }
 
 /// The starts of a spawner, a line for each: its words.

@@ -7,6 +7,8 @@ mod envelopes;
 #[cfg(test)]
 mod lines;
 #[cfg(test)]
+mod seals;
+#[cfg(test)]
 mod stepped;
 #[cfg(test)]
 mod wires;

@@ -14,7 +14,7 @@ loop-place-preserved c =
     let place = c.loop-place.place in
     let any : Call = record { body = []; after = None; state = shown c.state-told.result; names = []; flags = no_flags } in (
       λ whole stands.
-          let one = call_at (calls_of whole) place (shown c.state-told.result) (c.state-told.ensures whole stands) in
+          let one = call_at (calls_of whole) place (shown c.state-told.result) (c.state-told.ensures.state whole stands) in
           c.in_ok-call_line.ensures.told one.call one.told
           ∙ lines_on old text c.args.client (calls_of whole) place one.call one.here (c.loop-place.invariant.0 whole stands),
       subst (λ (all : List ℕ). take (length old) all ≡ old) (sym (c.in_ok-call_line.ensures.told any refl))

@@ -13,6 +13,7 @@ returns-clause-room c =
     let called = c.called_by-called.result in
     let speech = c.in_ok-speech_for.field-0 in
     let again = c.as_slice-2.ensures.value in
+    let count : c.len-count.result ≡ length dues.items = omega (arith, c.len-count.ensures, dues.ok.0) in
     let long = ap (λ (dues : List Due). length dues) again in
     record {
       few = omega (arith, c.in_ok-dues.ensures.few, dues.ok.0);
@@ -20,6 +21,6 @@ returns-clause-room c =
       acks = omega (arith, c.in_ok-with_capacity.ensures.capacity, c.len-count.ensures, dues.ok.0);
       called = subst (λ (dues : List Due). IsCalled (calls_by dues) c.args.standing.now called) c.as_slice.ensures.value c.called_by-called.ensures;
       speech = subst (λ (dues : List Due). IsRoomFor (packet_messages (length dues) limit + called.count) (packet_bytes dues limit + called.bytes) speech) again c.in_ok-speech_for.ensures.room;
-      entries = subst (λ (count : ℕ). c.in_ok-new.field-0 ≡ record { entries = []; room = count + limit }) c.len-count.ensures c.in_ok-new.ensures;
+      entries = subst (λ (count : ℕ). c.in_ok-new.field-0 ≡ record { entries = []; room = count + limit }) count c.in_ok-new.ensures;
       numbers = omega (arith, long, c.in_ok-speech_for.ensures.numbers);
     }

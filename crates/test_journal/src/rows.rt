@@ -1,12 +1,12 @@
 //! Servers that come back.
 
-use crate::desks::disk;
+use crate::desks::{Server, disk, seal};
 use crate::play::{begins, goes_on};
 use disks::MemDisk;
 use octets::Octets;
 use std::alloc::Global;
 use std::test::Fail;
-use test_asserts::same;
+use test_asserts::{same, shown};
 
 #[test]
 fn a_call_runs_once_after_a_stop(rt: HostRuntime) -> Result<(), Fail> {
@@ -83,4 +83,16 @@ fn a_closed_server_does_nothing(rt: HostRuntime) -> Result<(), Fail> {
     let faults = disk.faults();
     drop(disk);
     same(faults, 1)
+}
+
+#[test]
+fn no_byte_of_a_seed_is_shown(rt: HostRuntime) -> Result<(), Fail> {
+    let alloc = rt.alloc();
+    let (new, seal) = (disk(alloc, b"", &[])?, seal(alloc)?);
+    let Ok(server) = Server::create(alloc, new, seal, &[7; 32]) else {
+        return Err(Fail::new("no server"));
+    };
+    let text = shown(alloc, &server);
+    drop(server);
+    same(text?.as_str(), "Kept { len: Some(41), .. }")
 }
