@@ -65,7 +65,23 @@ pub fn answers_with(
     Ok(true)
 }
 
-/// Puts the packet that a client sends next behind a text, in a frame of the wire's form: whether there is one.
+/// Puts a packet behind a text, in a frame of the wire's form, where it fits into one: whether it does.
+pub fn frames(
+    wire: &mut Wire<Framed>,
+    alloc: Global,
+    packet: &[u8],
+    out: &mut Octets,
+) -> Result<bool, Error>
+    ensures framed { IfOk result (λ there. there ≡ false → out.new ≡ out.old) }
+{
+    if !fits(packet) {
+        return Ok(false);
+    }
+    wire.put(alloc, packet, out)?;
+    Ok(true)
+}
+
+/// The same of the packet that a client sends next: whether there is one, and it fits.
 pub fn frames_next(
     client: &mut Client,
     wire: &mut Wire<Framed>,
@@ -76,11 +92,8 @@ pub fn frames_next(
     ensures framed { IfOk result (λ there. there ≡ false → out.new ≡ out.old) }
 {
     match client.poll_transmit(alloc, now)? {
-        Some(packet) if fits(packet.as_slice()) => {
-            wire.put(alloc, packet.as_slice(), out)?;
-            Ok(true)
-        }
-        _ => Ok(false),
+        Some(packet) => frames(wire, alloc, packet.as_slice(), out),
+        None => Ok(false),
     }
 }
 
@@ -94,11 +107,8 @@ pub fn frames_out(
     ensures framed { IfOk result (λ there. there ≡ false → out.new ≡ out.old) }
 {
     match server.poll_transmit(alloc) {
-        Some(packet) if fits(packet.packet.as_slice()) => {
-            wire.put(alloc, packet.packet.as_slice(), out)?;
-            Ok(true)
-        }
-        _ => Ok(false),
+        Some(packet) => frames(wire, alloc, packet.packet.as_slice(), out),
+        None => Ok(false),
     }
 }
 
