@@ -9,6 +9,12 @@ says_kept-requires-clause-places c =
     let most = c.kept_count.ensures.unsaid (is_to c.args.call) c.in_ok-owing.owing in
     omega (arith, places, most)
 
+pub says_kept-requires-clause-bytes : goal.says_kept-requires-clause-bytes
+says_kept-requires-clause-bytes c =
+    let room = ap (λ (owing : Dues). owing.room) c.in_ok-owing.ensures in
+    let most = c.kept_bytes.ensures.unsaid (is_to c.args.call) c.in_ok-owing.owing in
+    omega (arith, room, most)
+
 pub says_kept-requires-2-clause-places : goal.says_kept-requires-2-clause-places
 says_kept-requires-2-clause-places c =
     let places = ap (λ (owing : Dues). owing.places) c.in_ok-owing.ensures in
