@@ -1,6 +1,6 @@
 //! What the adapters ask of the library, in order, noted by stand-ins for its sockets and its clock.
 
-ghost use Rattle.std.specs.Prelude.{◌≡◌, IfOk};
+ghost use Rattle.std.specs.Prelude.{◌≡◌, IfOk, true};
 
 use mt_edge::{
     Act, Clock, Got, Link, Linked, Net, Put, ReadSource, Sink, Source, SystemClock, TcpNet,
@@ -180,83 +180,123 @@ fn local(port: u16) -> SocketAddr {
     SocketAddr::from((Ipv4Addr::LOCALHOST, port))
 }
 
+/// A net listens on a port: what it answers, what was asked, and whether it was asked at this machine.
+fn listened<N: Net>(net: &mut N, notes: &Notes) -> (Act, u64, bool) {
+    let act = net.listen(443);
+    (act, asked(notes), notes.address.get() == local(443))
+}
+
+/// A net takes a link, where there is one, which is closed and given back: what was asked until then, and by that.
+fn taken<N: Net>(net: &mut N, notes: &Notes) -> Option<(u64, u64)> {
+    match net.accept() {
+        Linked::Link(mut link) => {
+            let calls = asked(notes);
+            link.close();
+            net.done(link);
+            Some((calls, asked(notes)))
+        }
+        Linked::Failed => None,
+    }
+}
+
+/// The same of a link that is made.
+fn made<N: Net>(net: &mut N, notes: &Notes) -> Option<(u64, u64)> {
+    match net.connect(80) {
+        Linked::Link(mut link) => {
+            let calls = asked(notes);
+            link.close();
+            net.done(link);
+            Some((calls, asked(notes)))
+        }
+        Linked::Failed => None,
+    }
+}
+
 #[test]
 fn a_net_asks_once_for_this_machine(_rt: HostRuntime) -> Result<(), Fail> {
     let notes = Notes::new(false);
     let mut net = TcpNet::new(NotedSockets { notes: &notes });
-    same(net.listen(443), Act::Ready)?;
-    same(
-        (asked(&notes), notes.address.get() == local(443)),
-        (0x1, true),
-    )?;
-    let Linked::Link(_taken) = net.accept() else {
-        return Err("no link".into());
-    };
-    same(asked(&notes), 0x34)?;
-    let Linked::Link(_made) = net.connect(80) else {
-        return Err("no link".into());
-    };
-    same(
-        (asked(&notes), notes.address.get() == local(80)),
-        (0x24, true),
-    )?;
-    Ok(())
+    let listened = listened(&mut net, &notes);
+    let taken = taken(&mut net, &notes);
+    let made = made(&mut net, &notes);
+    drop(net);
+    same(listened, (Act::Ready, 0x1, true))?;
+    same((taken, made), (Some((0x34, 0x5)), Some((0x24, 0x5))))?;
+    same(notes.address.get() == local(80), true)
 }
 
 #[test]
 fn a_net_asks_once_where_it_fails(_rt: HostRuntime) -> Result<(), Fail> {
     let notes = Notes::new(true);
     let mut net = TcpNet::new(NotedSockets { notes: &notes });
-    same(net.listen(443), Act::Failed)?;
-    same(asked(&notes), 0x1)?;
-    same(matches!(net.connect(80), Linked::Failed), true)?;
-    same(asked(&notes), 0x2)?;
-    same(matches!(net.accept(), Linked::Failed), true)?;
-    same(asked(&notes), 0)?;
-    Ok(())
+    let listened = listened(&mut net, &notes);
+    let made = (made(&mut net, &notes), asked(&notes));
+    let taken = (taken(&mut net, &notes), asked(&notes));
+    drop(net);
+    same(listened, (Act::Failed, 0x1, true))?;
+    same((made, taken), ((None, 0x2), (None, 0)))
+}
+
+/// A link fails to read and to write, and asks once for each.
+fn fails<L: Link>(link: &mut L, notes: &Notes) -> Result<(), Fail> {
+    same(link.read(&mut [0u8; 9]), Got::Failed)?;
+    same(asked(notes), 0x6)?;
+    same(link.write(b"abc"), Put::Failed)?;
+    same(asked(notes), 0x78)
 }
 
 #[test]
 fn what_fails_is_asked_once(_rt: HostRuntime) -> Result<(), Fail> {
     let notes = Notes::new(false);
     let mut net = TcpNet::new(NotedSockets { notes: &notes });
-    same(net.listen(443), Act::Ready)?;
-    let Linked::Link(link) = net.connect(80) else {
+    let act = net.listen(443);
+    let Linked::Link(mut link) = net.connect(80) else {
         return Err("no link".into());
     };
-    let mut link = link;
-    same(asked(&notes), 0x124)?;
+    let connected = asked(&notes);
     notes.is_failing.set(true);
-    same(matches!(net.accept(), Linked::Failed), true)?;
-    same(asked(&notes), 0x3)?;
-    same(link.read(&mut [0u8; 9]), Got::Failed)?;
-    same(asked(&notes), 0x6)?;
-    same(link.write(b"abc"), Put::Failed)?;
-    same(asked(&notes), 0x78)?;
-    Ok(())
+    let taken = (taken(&mut net, &notes), asked(&notes));
+    drop(net);
+    let failed = fails(&mut link, &notes);
+    drop(link);
+    same((act, connected), (Act::Ready, 0x124))?;
+    same(taken, (None, 0x3))?;
+    failed
+}
+
+/// A link hands on whole pieces, once each.
+fn hands_on<L: Link>(link: &mut L, notes: &Notes) -> Result<(), Fail> {
+    same(link.read(&mut [0u8; 9]), Got::Bytes(1))?;
+    same((asked(notes), notes.offered.get()), (0x6, 9))?;
+    same(link.write(b"abc"), Put::Took(2))?;
+    same((asked(notes), notes.offered.get()), (0x78, 3))
+}
+
+/// What a link that is closed asks, and what it reads and writes then.
+fn closed<L: Link>(link: &mut L, notes: &Notes) -> (u64, Got, Put)
+    ensures { (L.standing link.new).closed ≡ true }
+{
+    link.close();
+    let calls = asked(notes);
+    let got = link.read(&mut [0u8; 9]);
+    (calls, got, link.write(b"c"))
 }
 
 #[test]
 fn a_link_hands_on_whole_pieces_once(_rt: HostRuntime) -> Result<(), Fail> {
     let notes = Notes::new(false);
     let mut net = TcpNet::new(NotedSockets { notes: &notes });
-    let Linked::Link(link) = net.connect(80) else {
+    let Linked::Link(mut link) = net.connect(80) else {
         return Err("no link".into());
     };
-    let mut link = link;
-    let mut into = [0u8; 9];
-    same(asked(&notes), 0x24)?;
-    same(link.read(&mut into), Got::Bytes(1))?;
-    same((asked(&notes), notes.offered.get()), (0x6, 9))?;
-    same(link.write(b"abc"), Put::Took(2))?;
-    same((asked(&notes), notes.offered.get()), (0x78, 3))?;
-    link.close();
-    same(asked(&notes), 0x5)?;
-    same(link.read(&mut into), Got::Failed)?;
-    same(link.write(b"c"), Put::Failed)?;
+    let connected = asked(&notes);
+    let handed = hands_on(&mut link, &notes);
+    let closed = closed(&mut link, &notes);
     net.done(link);
-    same(asked(&notes), 0)?;
-    Ok(())
+    drop(net);
+    handed?;
+    same((connected, asked(&notes)), (0x24, 0))?;
+    same(closed, (0x5, Got::Failed, Put::Failed))
 }
 
 #[test]

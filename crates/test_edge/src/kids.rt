@@ -6,7 +6,7 @@ use mt_edge::{Act, ChildKids, Got, Line, Link, MemKid, MemKids, MemLink, Spawner
 use octets::Octets;
 use std::alloc::{AllocError, Global};
 use std::test::Fail;
-use test_asserts::{holds, same};
+use test_asserts::same;
 
 /// What a node does: it reads a link to its end, and hands on whether the end came.
 fn read_to_end<L: Link>(link: &mut L) -> bool
@@ -26,13 +26,14 @@ fn read_to_end<L: Link>(link: &mut L) -> bool
 #[test]
 fn links_are_read_to_their_end(rt: HostRuntime) -> Result<(), Fail> {
     let mut link = MemLink::new(rt.alloc(), b"hello", 3, &[5], 0, 6)?;
-    holds(read_to_end(&mut link))?;
-    holds(!read_to_end(&mut link))?;
-    Ok(())
+    let first = read_to_end(&mut link);
+    let second = read_to_end(&mut link);
+    drop(link);
+    same((first, second), (true, false))
 }
 
 /// These two words.
-fn words(alloc: Global, first: &str, second: &str) -> Result<Vec<String>, AllocError> {
+pub(crate) fn words(alloc: Global, first: &str, second: &str) -> Result<Vec<String>, AllocError> {
     let mut words = Vec::new(alloc);
     words.push(String::from_str(alloc, first)?)?;
     words.push(String::from_str(alloc, second)?)?;
@@ -56,82 +57,104 @@ fn kind_of(line: &Line) -> &'static str {
 }
 
 /// Starts a child, reads a line and waits: what each came to.
-fn life<P: Spawner>(kids: &mut P, alloc: Global, words: &[String]) -> (Act, &'static str, Act) {
+pub(crate) fn life<P: Spawner>(
+    kids: &mut P,
+    alloc: Global,
+    words: &[String],
+) -> (Act, &'static str, Act) {
     let started = kids.start(words);
     let line = kids.line(alloc);
     let ended = kids.wait();
     (started, kind_of(&line), ended)
 }
 
-#[test]
-fn children_in_memory(rt: HostRuntime) -> Result<(), Fail> {
-    let alloc = rt.alloc();
+/// A child that says `ready`.
+fn one_ready(alloc: Global) -> Result<MemKid, Fail> {
     let mut lines = Vec::new(alloc);
     lines.push(Octets::copy(alloc, b"ready")?)?;
+    Ok(MemKid { lines, status: 0 })
+}
+
+/// Two children, of which the one that comes second says nothing and ends with the status 3; the eighth call fails.
+fn two_kids(alloc: Global) -> Result<MemKids, Fail> {
     let mut kids = Vec::new(alloc);
-    let (second, first) = (Vec::new(alloc), lines);
     kids.push(MemKid {
-        lines: second,
+        lines: Vec::new(alloc),
         status: 3,
     })?;
-    kids.push(MemKid {
-        lines: first,
-        status: 0,
-    })?;
-    let mut kids = MemKids::new(alloc, kids, &[8], 8, 2, 8)?;
-    let words = words(alloc, "serve", "--conns")?;
+    kids.push(one_ready(alloc)?)?;
+    Ok(MemKids::new(alloc, kids, &[8], 8, 2, 8)?)
+}
+
+fn three_lives(kids: &mut MemKids, alloc: Global, words: &[String]) -> Result<(), Fail> {
+    same(life(kids, alloc, words), (Act::Ready, "ready", Act::Ready))?;
+    same(life(kids, alloc, words), (Act::Ready, "end", Act::Failed))?;
     same(
-        life(&mut kids, alloc, words.as_slice()),
-        (Act::Ready, "ready", Act::Ready),
-    )?;
-    same(
-        life(&mut kids, alloc, words.as_slice()),
-        (Act::Ready, "end", Act::Failed),
-    )?;
-    same(
-        life(&mut kids, alloc, words.as_slice()),
+        life(kids, alloc, words),
         (Act::Failed, "failed", Act::Failed),
     )?;
-    same((kids.calls().len(), kids.faults()), (8, 4))?;
-    Ok(())
+    same((kids.calls().len(), kids.faults()), (8, 4))
+}
+
+#[test]
+fn children_in_memory(rt: HostRuntime) -> Result<(), Fail> {
+    let words = words(rt.alloc(), "serve", "--conns")?;
+    let done = match two_kids(rt.alloc()) {
+        Ok(mut kids) => {
+            let done = three_lives(&mut kids, rt.alloc(), words.as_slice());
+            drop(kids);
+            done
+        }
+        Err(fail) => Err(fail),
+    };
+    drop(words);
+    done
+}
+
+/// A child of a program of this machine that is given this script, and then one that is given another.
+fn two_lives(
+    rt: &HostRuntime,
+    program: &str,
+    first: &str,
+    second: &str,
+) -> Result<[(Act, &'static str, Act); 2], Fail> {
+    let alloc = rt.alloc();
+    let program = String::from_str(alloc, program)?;
+    let mut kids = ChildKids::new(rt, program);
+    let first = life_of(&mut kids, alloc, first);
+    let second = life_of(&mut kids, alloc, second);
+    drop(kids);
+    Ok([first?, second?])
+}
+
+/// The life of a child that is given this script.
+fn life_of<P: Spawner>(
+    kids: &mut P,
+    alloc: Global,
+    script: &str,
+) -> Result<(Act, &'static str, Act), AllocError> {
+    let words = words(alloc, "-c", script)?;
+    let life = life(kids, alloc, words.as_slice());
+    drop(words);
+    Ok(life)
 }
 
 #[test]
 fn children_of_this_machine(rt: HostRuntime) -> Result<(), Fail> {
-    let alloc = rt.alloc();
-    let mut kids = ChildKids::new(&rt, String::from_str(alloc, "sh")?);
-    let good = words(alloc, "-c", "echo ready")?;
-    let bad = words(alloc, "-c", "exit 3")?;
-    same(
-        life(&mut kids, alloc, good.as_slice()),
-        (Act::Ready, "ready", Act::Ready),
-    )?;
-    same(
-        life(&mut kids, alloc, bad.as_slice()),
-        (Act::Ready, "end", Act::Failed),
-    )?;
-    let mut kids = ChildKids::new(&rt, String::from_str(alloc, "no_such_program")?);
-    same(
-        life(&mut kids, alloc, good.as_slice()),
-        (Act::Failed, "failed", Act::Failed),
-    )?;
-    Ok(())
+    let [good, bad] = two_lives(&rt, "sh", "echo ready", "exit 3")?;
+    same(good, (Act::Ready, "ready", Act::Ready))?;
+    same(bad, (Act::Ready, "end", Act::Failed))?;
+    let [none, again] = two_lives(&rt, "no_such_program", "echo ready", "echo ready")?;
+    same(none, (Act::Failed, "failed", Act::Failed))?;
+    same(again, (Act::Failed, "failed", Act::Failed))
 }
 
 #[test]
 fn a_child_doesnt_take_our_input(rt: HostRuntime) -> Result<(), Fail> {
-    let alloc = rt.alloc();
-    let mut kids = ChildKids::new(&rt, String::from_str(alloc, "sh")?);
-    let looks = words(
-        alloc,
-        "-c",
-        "test \"$(readlink /proc/self/fd/0)\" = /dev/null && echo ready",
-    )?;
-    same(
-        life(&mut kids, alloc, looks.as_slice()),
-        (Act::Ready, "ready", Act::Ready),
-    )?;
-    Ok(())
+    let looks = "test \"$(readlink /proc/self/fd/0)\" = /dev/null && echo ready";
+    let [first, second] = two_lives(&rt, "sh", looks, looks)?;
+    same(first, (Act::Ready, "ready", Act::Ready))?;
+    same(second, (Act::Ready, "ready", Act::Ready))
 }
 
 /// Starts a child, fails to start another, reads a line and waits: what each came to.
@@ -151,29 +174,38 @@ fn life_beside<P: Spawner>(
 #[test]
 fn a_start_that_failed_in_memory(rt: HostRuntime) -> Result<(), Fail> {
     let alloc = rt.alloc();
-    let mut lines = Vec::new(alloc);
-    lines.push(Octets::copy(alloc, b"ready")?)?;
-    let mut kids = Vec::new(alloc);
-    kids.push(MemKid { lines, status: 0 })?;
-    let mut kids = MemKids::new(alloc, kids, &[], 4, 2, 8)?;
-    let words = words(alloc, "serve", "--conns")?;
+    let mut kids = one_kid(alloc)?;
+    let both = match words(alloc, "serve", "--conns") {
+        Ok(words) => {
+            let life = life_beside(&mut kids, alloc, words.as_slice(), words.as_slice());
+            drop(words);
+            Some((life, kids.faults()))
+        }
+        Err(_) => None,
+    };
+    drop(kids);
     same(
-        life_beside(&mut kids, alloc, words.as_slice(), words.as_slice()),
-        (Act::Ready, Act::Failed, "ready", Act::Ready),
-    )?;
-    same(kids.faults(), 1)?;
-    Ok(())
+        both,
+        Some(((Act::Ready, Act::Failed, "ready", Act::Ready), 1)),
+    )
+}
+
+fn one_kid(alloc: Global) -> Result<MemKids, Fail> {
+    let mut kids = Vec::new(alloc);
+    kids.push(one_ready(alloc)?)?;
+    Ok(MemKids::new(alloc, kids, &[], 4, 2, 8)?)
 }
 
 #[test]
 fn a_start_that_failed_on_this_machine(rt: HostRuntime) -> Result<(), Fail> {
     let alloc = rt.alloc();
-    let mut kids = ChildKids::new(&rt, String::from_str(alloc, "sh")?);
+    let program = String::from_str(alloc, "sh")?;
     let good = words(alloc, "-c", "echo ready")?;
     let faulty = words(alloc, "-c", "echo \0")?;
-    same(
-        life_beside(&mut kids, alloc, good.as_slice(), faulty.as_slice()),
-        (Act::Ready, Act::Failed, "ready", Act::Ready),
-    )?;
-    Ok(())
+    let mut kids = ChildKids::new(&rt, program);
+    let life = life_beside(&mut kids, alloc, good.as_slice(), faulty.as_slice());
+    drop(kids);
+    drop(good);
+    drop(faulty);
+    same(life, (Act::Ready, Act::Failed, "ready", Act::Ready))
 }

@@ -1,68 +1,112 @@
-//! How often the adapters of files and children ask the library, counted in front of this machine's.
+//! How often the adapters of files and children ask the library, counted in front of this machine's; and a file of std that fails.
 
-use disks::{Disk, DiskOpen, Disks, FileDisks};
-use mt_edge::{Act, ChildKids, DiskFiles, FileGot, KeyFiles, Line, Spawner};
+use crate::kids::{life, words};
+use disks::{Disk, DiskLen, DiskOpen, Disks, FileDisks};
+use mt_edge::{Act, ChildKids, DiskFiles, FileGot, KeyFiles};
 use std::alloc::Allocator;
 use std::cell::Cell;
 use std::fs::{self, Files, Metadata, OpenFile, OpenOptions};
-use std::io::{self, Read, Seek, SeekFrom, Write};
+use std::io::{self, ErrorKind, Read, Seek, SeekFrom, Write};
 use std::process::{Child, Command, Processes, Stdio};
 use std::test::Fail;
 use test_asserts::same;
 
 /// Files and children of this machine, with a count of files that were opened or made sure of and of children that were started.
+/// Files that fail read and write, but move only where they are asked to, and do nothing else.
 #[derive(Drop)]
 struct Counted<'a> {
     rt: &'a HostRuntime,
     count: &'a Cell<u64>,
+    fails: bool,
+    moves: bool,
 }
 
 impl<'a> Counted<'a> {
+    fn new(rt: &'a HostRuntime, count: &'a Cell<u64>) -> Counted<'a> {
+        Counted {
+            rt,
+            count,
+            fails: false,
+            moves: true,
+        }
+    }
+
     fn add(&self) {
         self.count.set(self.count.get().wrapping_add(1));
     }
 }
 
-/// A file of this machine, with that count.
+/// A file of this machine, with that count, or one that fails.
 #[derive(Drop)]
 struct CountedFile<'a> {
     file: <HostRuntime as Files>::File,
     count: &'a Cell<u64>,
+    fails: bool,
+    moves: bool,
+}
+
+/// What it answers to what it doesn't do.
+fn fault<T>() -> io::Result<T> {
+    Err(io::Error::from(ErrorKind::Unsupported))
 }
 
 impl<'a> Read for CountedFile<'a> {
     fn read(&mut self, into: &mut [u8]) -> io::Result<usize> {
+        if self.fails {
+            return Ok(into.len());
+        }
         self.file.read(into)
     }
 }
 
 impl<'a> Write for CountedFile<'a> {
     fn write(&mut self, piece: &[u8]) -> io::Result<usize> {
+        if self.fails {
+            return Ok(piece.len());
+        }
         self.file.write(piece)
     }
 
     fn flush(&mut self) -> io::Result<()> {
+        if self.fails {
+            return fault();
+        }
         self.file.flush()
     }
 }
 
 impl<'a> Seek for CountedFile<'a> {
     fn seek(&mut self, to: SeekFrom) -> io::Result<u64> {
+        if !self.moves {
+            return fault();
+        }
+        if self.fails {
+            return Ok(0);
+        }
         self.file.seek(to)
     }
 }
 
 impl<'a> OpenFile for CountedFile<'a> {
     fn metadata(&self) -> io::Result<Metadata> {
+        if self.fails {
+            return fault();
+        }
         self.file.metadata()
     }
 
     fn set_len(&self, size: u64) -> io::Result<()> {
+        if self.fails {
+            return fault();
+        }
         self.file.set_len(size)
     }
 
     fn sync_all(&self) -> io::Result<()> {
         self.count.set(self.count.get().wrapping_add(1));
+        if self.fails {
+            return fault();
+        }
         self.file.sync_all()
     }
 
@@ -82,6 +126,8 @@ impl<'a> Files for Counted<'a> {
         Ok(CountedFile {
             file,
             count: self.count,
+            fails: self.fails,
+            moves: self.moves,
         })
     }
 
@@ -142,10 +188,7 @@ fn a_file_is_opened_once(rt: HostRuntime) -> Result<(), Fail> {
     let name = "mt_edge_once.tmp";
     fs::write(&rt, name, b"key".as_slice())?;
     let count = Cell::new(0);
-    let mut files = DiskFiles::new(Counted {
-        rt: &rt,
-        count: &count,
-    });
+    let mut files = DiskFiles::new(Counted::new(&rt, &count));
     same(
         matches!(files.read(rt.alloc(), name), FileGot::Contents(_)),
         true,
@@ -159,37 +202,83 @@ fn a_file_is_opened_once(rt: HostRuntime) -> Result<(), Fail> {
     same(count.get(), 2)
 }
 
+/// What a file of this name answers to a write and to a sync, each with the count then.
+fn made_sure<D: Disks>(disks: &mut D, name: &str, count: &Cell<u64>) -> Option<[(Act, u64); 2]> {
+    match disks.open(name) {
+        DiskOpen::Disk(mut disk) => {
+            let written = (disk.write(0, b"a"), count.get());
+            let synced = (disk.sync(), count.get());
+            disks.done(disk);
+            Some([written, synced])
+        }
+        DiskOpen::Failed => None,
+    }
+}
+
 #[test]
 fn a_file_is_made_sure_of_once(rt: HostRuntime) -> Result<(), Fail> {
     let name = "disks_once.tmp";
     let count = Cell::new(0);
-    let mut disks = FileDisks::new(Counted {
-        rt: &rt,
-        count: &count,
-    });
-    let DiskOpen::Disk(mut disk) = disks.open(name) else {
-        return Err("no file".into());
-    };
-    same((disk.write(0, b"a"), count.get()), (Act::Ready, 1))?;
-    same((disk.sync(), count.get()), (Act::Ready, 2))?;
-    disks.done(disk);
+    let mut disks = FileDisks::new(Counted::new(&rt, &count));
+    let told = made_sure(&mut disks, name, &count);
+    drop(disks);
     fs::remove_file(&rt, name)?;
-    Ok(())
+    same(told, Some([(Act::Ready, 1), (Act::Ready, 2)]))
+}
+
+/// What a disk answers to a question for its length, and to a read, a write, a cut and a sync.
+fn answers_of<K: Disk>(disk: &mut K) -> (DiskLen, [Act; 4]) {
+    let mut into = [0u8; 2];
+    let len = disk.len();
+    let read = disk.read(0, &mut into);
+    let written = disk.write(0, b"ab");
+    let cut = disk.cut(0);
+    (len, [read, written, cut, disk.sync()])
+}
+
+/// The same of the disk of this name.
+fn answers_by_name<D: Disks>(disks: &mut D, name: &str) -> Option<(DiskLen, [Act; 4])> {
+    match disks.open(name) {
+        DiskOpen::Disk(mut disk) => {
+            let answers = answers_of(&mut disk);
+            disks.done(disk);
+            Some(answers)
+        }
+        DiskOpen::Failed => None,
+    }
+}
+
+/// The same of a file that fails, and moves or doesn't.
+fn answers_of_faulty(rt: &HostRuntime, moves: bool) -> Result<Option<(DiskLen, [Act; 4])>, Fail> {
+    let name = "disks_faulty.tmp";
+    let count = Cell::new(0);
+    let mut files = Counted::new(rt, &count);
+    (files.fails, files.moves) = (true, moves);
+    let mut disks = FileDisks::new(files);
+    let answers = answers_by_name(&mut disks, name);
+    drop(disks);
+    fs::remove_file(rt, name)?;
+    Ok(answers)
+}
+
+#[test]
+fn files_that_fail(rt: HostRuntime) -> Result<(), Fail> {
+    use Act::{Failed, Ready};
+    let moving = (DiskLen::Failed, [Ready, Failed, Failed, Failed]);
+    same(answers_of_faulty(&rt, true)?, Some(moving))?;
+    let still = (DiskLen::Failed, [Failed, Failed, Failed, Failed]);
+    same(answers_of_faulty(&rt, false)?, Some(still))
 }
 
 #[test]
 fn a_child_is_started_once(rt: HostRuntime) -> Result<(), Fail> {
     let alloc = rt.alloc();
+    let program = String::from_str(alloc, "sh")?;
+    let words = words(alloc, "-c", "exit 0")?;
     let count = Cell::new(0);
-    let counted = Counted {
-        rt: &rt,
-        count: &count,
-    };
-    let mut kids = ChildKids::new(counted, String::from_str(alloc, "sh")?);
-    let mut words = Vec::new(alloc);
-    words.push(String::from_str(alloc, "-c")?)?;
-    words.push(String::from_str(alloc, "exit 0")?)?;
-    same(kids.start(words.as_slice()), Act::Ready)?;
-    same(matches!(kids.line(alloc), Line::End), true)?;
-    same((kids.wait(), count.get()), (Act::Ready, 1))
+    let mut kids = ChildKids::new(Counted::new(&rt, &count), program);
+    let life = life(&mut kids, alloc, words.as_slice());
+    drop(kids);
+    drop(words);
+    same((life, count.get()), ((Act::Ready, "end", Act::Ready), 1))
 }
