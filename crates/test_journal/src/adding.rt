@@ -9,6 +9,7 @@ use disks::{Disk, MemDisk};
 use sess_records::{Event, Journal, Opening};
 use std::alloc::Global;
 use std::test::Fail;
+use test_asserts::{same, shows};
 
 /// Makes a journal and adds two records, one after the other.
 fn two_records<K: Disk>(disk: K) -> Result<Journal<K>, K>
@@ -33,11 +34,11 @@ fn records_one_after_the_other(rt: HostRuntime) -> Result<(), Fail> {
     let Ok(journal) = two_records(disk) else {
         return Err("not added".into());
     };
-    assert_eq!(rt; (journal.len(), journal.seed()), (41 + 22 + 30, [3; 32]));
-    assert_eq!(rt;
+    same((journal.len(), journal.seed()), (41 + 22 + 30, [3; 32]))?;
+    same(
         outcome_of(rt.alloc(), journal.into_disk()),
-        Outcome::Records(2, 93)
-    );
+        Outcome::Records(2, 93),
+    )?;
     Ok(())
 }
 
@@ -53,7 +54,7 @@ fn a_failed_disk_is_opened_again(rt: HostRuntime) -> Result<(), Fail> {
             15 => Outcome::Records(2, 93),
             _ => Outcome::Failed,
         };
-        assert_eq!(rt; read_again(rt.alloc(), disk), want);
+        same(read_again(rt.alloc(), disk), want)?;
     }
     Ok(())
 }
@@ -64,16 +65,9 @@ fn no_byte_of_a_seed_is_shown(rt: HostRuntime) -> Result<(), Fail> {
     let Ok(journal) = two_records(disk) else {
         return Err("not added".into());
     };
-    assert_eq!(rt;
-        format!(in rt.alloc(); "{journal:?}")?.as_str(),
-        "Journal { len: 93, .. }"
-    );
+    shows(rt.alloc(), &journal, "Journal { len: 93, .. }")?;
     let Ok(opening) = Opening::new(journal.into_disk()) else {
         return Err("not opened".into());
     };
-    assert_eq!(rt;
-        format!(in rt.alloc(); "{opening:?}")?.as_str(),
-        "Opening { place: 41, .. }"
-    );
-    Ok(())
+    shows(rt.alloc(), &opening, "Opening { place: 41, .. }")
 }

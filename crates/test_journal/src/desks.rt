@@ -36,19 +36,29 @@ pub(crate) fn seal(alloc: Global) -> Result<ClearSeal, Fail> {
 
 /// The packet of a message.
 fn packet(alloc: Global, salt: u64, number: u64, seq: u32, body: &[u8]) -> Result<Octets, Fail> {
+    let body = Octets::copy(alloc, body)?;
     let seal = seal(alloc)?;
-    if !seal.has(KEY_ID) || body.len() % 4 != 0 || body.len() > BODY_MAX {
-        return Err(Fail::new("no packet"));
-    }
     let envelope = Envelope {
         key: KEY_ID,
         salt,
         session: SESSION,
         number,
         seq,
-        body: Octets::copy(alloc, body)?,
+        body,
     };
-    Ok(seal.seal(alloc, Dir::Up, &envelope, &mut StepDraw::new())?)
+    let packet = sealed(alloc, &seal, &envelope);
+    drop(seal);
+    drop(envelope);
+    packet
+}
+
+/// The packet of an envelope under the key.
+fn sealed(alloc: Global, seal: &ClearSeal, envelope: &Envelope) -> Result<Octets, Fail> {
+    let len = envelope.body.as_slice().len();
+    if !seal.has(envelope.key) || len % 4 != 0 || len > BODY_MAX {
+        return Err(Fail::new("no packet"));
+    }
+    Ok(seal.seal(alloc, Dir::Up, envelope, &mut StepDraw::new())?)
 }
 
 /// The client's first packet: a call under a wrong salt.

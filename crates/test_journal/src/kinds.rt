@@ -8,6 +8,7 @@ use octets::Octets;
 use sess_records::{Event, Journal, Opening, Record};
 use std::alloc::Global;
 use std::test::Fail;
+use test_asserts::{holds, same};
 
 /// A file of one record: a length field, a kind, so many bytes behind its moment and its place, and a closed gate.
 fn one_record(alloc: Global, size: u32, kind: u8, rest: u32) -> Result<Octets, Fail> {
@@ -64,7 +65,7 @@ fn lengths_that_fit_their_kinds(rt: HostRuntime) -> Result<(), Fail> {
         } else {
             Outcome::NotJournal(41)
         };
-        assert_eq!(rt; outcome_at(rt.alloc(), kind, rest)?, want);
+        same(outcome_at(rt.alloc(), kind, rest)?, want)?;
     }
     Ok(())
 }
@@ -73,10 +74,10 @@ fn lengths_that_fit_their_kinds(rt: HostRuntime) -> Result<(), Fail> {
 fn lengths_past_the_end(rt: HostRuntime) -> Result<(), Fail> {
     for size in [0u32, 16, 18, 1_000, u32::MAX] {
         let file = one_record(rt.alloc(), size, 1, 0)?;
-        assert_eq!(rt;
+        same(
             outcome_in(rt.alloc(), file.as_slice())?,
-            Outcome::NotJournal(41)
-        );
+            Outcome::NotJournal(41),
+        )?;
     }
     Ok(())
 }
@@ -144,7 +145,7 @@ fn each_kind_is_read_back(rt: HostRuntime) -> Result<(), Fail> {
     let Ok(mut opening) = Opening::new(journal.into_disk()) else {
         return Err("not opened".into());
     };
-    assert_eq!(rt; opening.seed(), [7; 32]);
+    same(opening.seed(), [7; 32])?;
     for (event, written) in events().iter().zip(WRITTEN) {
         if !opening.has_next() {
             return Err("too few".into());
@@ -152,10 +153,10 @@ fn each_kind_is_read_back(rt: HostRuntime) -> Result<(), Fail> {
         let Ok(record) = opening.next(rt.alloc()) else {
             return Err("no record".into());
         };
-        assert_eq!(rt; (record.moment, record.place), written);
-        assert!(rt; is_event(&record, event));
+        same((record.moment, record.place), written)?;
+        holds(is_event(&record, event))?;
     }
-    assert!(rt; !opening.has_next());
-    assert_eq!(rt; opening.place(), 41 + 28 + 22 + 38 + 30 + 30 + 22);
+    holds(!opening.has_next())?;
+    same(opening.place(), 41 + 28 + 22 + 38 + 30 + 30 + 22)?;
     Ok(())
 }

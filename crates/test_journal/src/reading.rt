@@ -5,6 +5,7 @@ use octets::Octets;
 use sess_records::{Event, Journal, JournalFault, Opening, Record};
 use std::alloc::Global;
 use std::test::Fail;
+use test_asserts::{holds, same};
 
 /// What a file comes to: how many records it has, and how long it is then, or where it is no journal.
 #[derive(Clone, Copy, Debug, PartialEq, Eq)]
@@ -28,24 +29,49 @@ fn fault_of(fault: JournalFault) -> Outcome {
 pub(crate) fn outcome_of<K: Disk + Drop>(alloc: Global, disk: K) -> Outcome {
     let mut opening = match Opening::new(disk) {
         Ok(opening) => opening,
-        Err((_disk, fault)) => return fault_of(fault),
+        Err((disk, fault)) => {
+            drop(disk);
+            return fault_of(fault);
+        }
     };
+    match counted(&mut opening, alloc) {
+        Ok(count) => finished(opening, count),
+        Err(fault) => {
+            drop(opening);
+            fault_of(fault)
+        }
+    }
+}
+
+/// Reads an opening to its end: how many records it has, at most 1,000.
+fn counted<K: Disk>(opening: &mut Opening<K>, alloc: Global) -> Result<u64, JournalFault> {
     let mut count = 0u64;
     for _ in 0..1_000u64 {
         if !opening.has_next() {
             break;
         }
-        match opening.next(alloc) {
-            Ok(_record) => count = count.saturating_add(1),
-            Err(fault) => return fault_of(fault),
-        }
+        drop(opening.next(alloc)?);
+        count = count.saturating_add(1);
     }
+    Ok(count)
+}
+
+/// What a file of so many records comes to, of which no more are left.
+fn finished<K: Disk + Drop>(opening: Opening<K>, count: u64) -> Outcome {
     if opening.has_next() {
+        drop(opening);
         return Outcome::Memory;
     }
     match opening.finish() {
-        Ok(journal) => Outcome::Records(count, journal.len()),
-        Err(_disk) => Outcome::Failed,
+        Ok(journal) => {
+            let len = journal.len();
+            drop(journal);
+            Outcome::Records(count, len)
+        }
+        Err(disk) => {
+            drop(disk);
+            Outcome::Failed
+        }
     }
 }
 
@@ -76,44 +102,62 @@ fn a_new_journal_has_41_bytes(rt: HostRuntime) -> Result<(), Fail> {
     let Ok(journal) = Journal::create(disk, &[0; 32]) else {
         return Err("not made".into());
     };
-    assert_eq!(rt; (journal.len(), journal.seed()), (41, [0; 32]));
+    same((journal.len(), journal.seed()), (41, [0; 32]))?;
     let disk = journal.into_disk();
-    assert!(rt; disk.contents().starts_with(&HEADER) && disk.contents().len() == 41);
-    assert_eq!(rt; (disk.contents()[40], disk.faults()), (0, 0));
+    holds(disk.contents().starts_with(&HEADER) && disk.contents().len() == 41)?;
+    same(
+        (disk.contents().get(40).copied(), disk.faults()),
+        (Some(0), 0),
+    )?;
     Ok(())
 }
 
 /// The one record of a file, where it has one.
 fn only(alloc: Global, bytes: &[u8]) -> Result<Option<Record>, Fail> {
-    let disk = MemDisk::new(alloc, bytes, &[], 0, 16)?;
-    let Ok(mut opening) = Opening::new(disk) else {
-        return Ok(None);
-    };
+    match Opening::new(MemDisk::new(alloc, bytes, &[], 0, 16)?) {
+        Ok(mut opening) => {
+            let record = last(&mut opening, alloc);
+            drop(opening);
+            Ok(record)
+        }
+        Err((disk, _)) => {
+            drop(disk);
+            Ok(None)
+        }
+    }
+}
+
+/// The next record of an opening, where there is one.
+fn next<K: Disk>(opening: &mut Opening<K>, alloc: Global) -> Option<Record> {
     if !opening.has_next() {
-        return Ok(None);
+        return None;
     }
-    let Ok(record) = opening.next(alloc) else {
-        return Ok(None);
-    };
+    opening.next(alloc).ok()
+}
+
+/// The same, where none comes behind it.
+fn last<K: Disk>(opening: &mut Opening<K>, alloc: Global) -> Option<Record> {
+    let record = next(opening, alloc)?;
     if opening.has_next() {
-        return Ok(None);
+        drop(record);
+        return None;
     }
-    Ok(Some(record))
+    Some(record)
 }
 
 #[test]
 fn a_file_of_63_bytes_has_one_tick(rt: HostRuntime) -> Result<(), Fail> {
     let file = one_tick(rt.alloc())?;
-    assert_eq!(rt; file.as_slice().len(), 63);
+    same(file.as_slice().len(), 63)?;
     let Some(record) = only(rt.alloc(), file.as_slice())? else {
         return Err("no record".into());
     };
-    assert_eq!(rt; (record.moment, record.place), (5, 2));
-    assert!(rt; matches!(&record.event, Event::Tick));
-    assert_eq!(rt;
+    same((record.moment, record.place), (5, 2))?;
+    holds(matches!(&record.event, Event::Tick))?;
+    same(
         outcome_in(rt.alloc(), file.as_slice())?,
-        Outcome::Records(1, 63)
-    );
+        Outcome::Records(1, 63),
+    )?;
     Ok(())
 }
 
@@ -127,9 +171,9 @@ fn a_file_that_is_cut(rt: HostRuntime) -> Result<(), Fail> {
         } else {
             Outcome::NotJournal(41)
         };
-        assert_eq!(rt; outcome_in(rt.alloc(), &bytes[..len])?, want);
+        same(outcome_in(rt.alloc(), &bytes[..len])?, want)?;
     }
-    assert_eq!(rt; outcome_in(rt.alloc(), bytes)?, Outcome::Records(1, 63));
+    same(outcome_in(rt.alloc(), bytes)?, Outcome::Records(1, 63))?;
     Ok(())
 }
 
@@ -155,7 +199,7 @@ fn gates_that_are_changed(rt: HostRuntime) -> Result<(), Fail> {
             Outcome::Records(0, 41)
         };
         let changed = with_byte(rt.alloc(), file.as_slice(), 40, gate)?;
-        assert_eq!(rt; outcome_in(rt.alloc(), changed.as_slice())?, want);
+        same(outcome_in(rt.alloc(), changed.as_slice())?, want)?;
     }
     Ok(())
 }
@@ -170,7 +214,7 @@ fn last_gates_that_are_changed(rt: HostRuntime) -> Result<(), Fail> {
             Outcome::Records(1, 63)
         };
         let changed = with_byte(rt.alloc(), file.as_slice(), 62, gate)?;
-        assert_eq!(rt; outcome_in(rt.alloc(), changed.as_slice())?, want);
+        same(outcome_in(rt.alloc(), changed.as_slice())?, want)?;
     }
     Ok(())
 }
@@ -186,7 +230,7 @@ fn headers_that_are_changed(rt: HostRuntime) -> Result<(), Fail> {
         } else {
             Outcome::Records(1, 63)
         };
-        assert_eq!(rt; outcome_in(rt.alloc(), changed.as_slice())?, want);
+        same(outcome_in(rt.alloc(), changed.as_slice())?, want)?;
     }
     Ok(())
 }

@@ -7,6 +7,7 @@ use sess_records::{Event, Journal};
 use std::alloc::Global;
 use std::fs;
 use std::test::Fail;
+use test_asserts::{holds, same};
 
 /// A journal of three records, a tick, a packet and a begin, over a disk in memory whose calls of these numbers fail. How many
 /// of its calls said that they are done, the making of it too, and the disk.
@@ -56,7 +57,7 @@ fn sure_after(acts: usize) -> u64 {
 #[test]
 fn a_stop_at_each_call(rt: HostRuntime) -> Result<(), Fail> {
     let (done, disk) = three(rt.alloc(), &[])?;
-    assert_eq!(rt; (done, disk.acts().len()), (4, 21));
+    same((done, disk.acts().len()), (4, 21))?;
     let acts = disk.acts().len();
     for stop in 0..acts {
         let image = disk.lost(rt.alloc(), stop)?;
@@ -65,7 +66,7 @@ fn a_stop_at_each_call(rt: HostRuntime) -> Result<(), Fail> {
         } else {
             Outcome::Records(sure_after(stop), len_of(sure_after(stop)))
         };
-        assert_eq!(rt; outcome_in(rt.alloc(), image.as_slice())?, want);
+        same(outcome_in(rt.alloc(), image.as_slice())?, want)?;
     }
     Ok(())
 }
@@ -101,11 +102,11 @@ fn a_record_that_is_torn(rt: HostRuntime) -> Result<(), Fail> {
                 return Err("another length".into());
             }
             left[90] = 0;
-            assert_eq!(rt; outcome_in(rt.alloc(), &left)?, Outcome::Records(2, 91));
-            assert_eq!(rt;
+            same(outcome_in(rt.alloc(), &left)?, Outcome::Records(2, 91))?;
+            same(
                 outcome_in(rt.alloc(), &left[..91 + written])?,
-                Outcome::Records(2, 91)
-            );
+                Outcome::Records(2, 91),
+            )?;
         }
     }
     Ok(())
@@ -121,10 +122,10 @@ fn a_gate_that_is_torn(rt: HostRuntime) -> Result<(), Fail> {
     for gate in 0..=255u8 {
         left[90] = gate;
         let count = if gate == 1 { 3 } else { 2 };
-        assert_eq!(rt;
+        same(
             outcome_in(rt.alloc(), &left)?,
-            Outcome::Records(count, len_of(count))
-        );
+            Outcome::Records(count, len_of(count)),
+        )?;
     }
     Ok(())
 }
@@ -133,17 +134,17 @@ fn a_gate_that_is_torn(rt: HostRuntime) -> Result<(), Fail> {
 fn a_call_that_fails(rt: HostRuntime) -> Result<(), Fail> {
     for number in 1..=21u64 {
         let (done, disk) = three(rt.alloc(), &[number])?;
-        assert_eq!(rt; disk.faults(), 1);
+        same(disk.faults(), 1)?;
         // The making has three calls, and each record six.
-        assert_eq!(rt; done, if number <= 3 { 0 } else { (number + 2) / 6 });
+        same(done, if number <= 3 { 0 } else { (number + 2) / 6 })?;
         if done > 0 {
             let (least, most) = (done - 1, done);
             let image = Octets::copy(rt.alloc(), disk.contents())?;
             let left = outcome_in(rt.alloc(), image.as_slice())?;
-            assert!(rt;
+            holds(
                 left == Outcome::Records(least, len_of(least))
-                    || left == Outcome::Records(most, len_of(most))
-            );
+                    || left == Outcome::Records(most, len_of(most)),
+            )?;
         }
     }
     Ok(())
@@ -156,10 +157,10 @@ fn an_opening_that_fails(rt: HostRuntime) -> Result<(), Fail> {
     // A sync, the length and the header; two reads for each record; a cut and a sync.
     for number in 1..=11u64 {
         let disk = MemDisk::new(rt.alloc(), whole.as_slice(), &[number], 0, 16)?;
-        assert_eq!(rt; outcome_of(rt.alloc(), disk), Outcome::Failed);
+        same(outcome_of(rt.alloc(), disk), Outcome::Failed)?;
     }
     let disk = MemDisk::new(rt.alloc(), whole.as_slice(), &[12], 0, 16)?;
-    assert_eq!(rt; outcome_of(rt.alloc(), disk), Outcome::Records(3, 121));
+    same(outcome_of(rt.alloc(), disk), Outcome::Records(3, 121))?;
     Ok(())
 }
 
@@ -183,8 +184,8 @@ fn a_file_of_this_machine(rt: HostRuntime) -> Result<(), Fail> {
     let DiskOpen::Disk(disk) = disks.open(name) else {
         return Err("no file".into());
     };
-    assert_eq!(rt; outcome_of(rt.alloc(), disk), Outcome::Records(2, 91));
+    same(outcome_of(rt.alloc(), disk), Outcome::Records(2, 91))?;
     fs::remove_file(&rt, name)?;
-    assert_eq!(rt; disks.faults(), 0);
+    same(disks.faults(), 0)?;
     Ok(())
 }
