@@ -1,6 +1,6 @@
 //! Batches of calls over links in memory.
 
-ghost use Rattle.std.specs.Prelude.{◌≡◌};
+ghost use Rattle.std.specs.Prelude.{IfOk};
 ghost use Rattle.client_core.specs.Holding.{kept_of};
 ghost use Rattle.client_core.specs.Keys.{HasKeys, keys_in};
 
@@ -63,25 +63,59 @@ pub(crate) fn is_linked(
     Ok(true)
 }
 
-// How the batch of a client ends over a net, with so many retries.
-fn ends<S: Seal>(
+// A client that has done nothing yet, with the call `add x 5` or with none.
+fn asks<S: Seal>(alloc: Global, idles: bool, seal: &S, draw: &mut StepDraw) -> Result<Holder, Fail>
+    ensures keys { IfOk result (λ holder. HasKeys (S.keys seal.now) (keys_in (kept_of holder))) }
+{
+    let mut client = joins(alloc, seal, KEY_ID, draw)?;
+    if idles {
+        return Ok(client);
+    }
+    match submits(&mut client, alloc, ADD_X_5, None) {
+        Ok(()) => Ok(client),
+        Err(fail) => {
+            drop(client);
+            Err(fail)
+        }
+    }
+}
+
+// What is told of the batch of a client over a net, with so many retries.
+fn runs<S: Seal>(
     alloc: Global,
     client: Holder,
-    seal: &S,
-    net: &mut MemNet,
     retries: u32,
+    net: &mut MemNet,
+    seal: &S,
+    clock: &mut ListClock,
     draw: &mut StepDraw,
-) -> Result<(Holder, Batch), Fail>
+) -> Result<String, Fail>
     requires keys { HasKeys (S.keys seal.now) (keys_in (kept_of client)) }
 {
-    let mut clock = ListClock::new(alloc, &[Moment::new(0)])?;
     let plan = Plan {
         port: 1,
         form: Form::Intermediate,
         obfuscate: false,
         retries,
     };
-    Ok(run_batch(alloc, client, &plan, net, seal, &mut clock, draw))
+    let (client, end) = run_batch(alloc, client, &plan, net, seal, clock, draw);
+    let told = told_of(alloc, &client, &end, net);
+    drop(client);
+    told
+}
+
+// How a batch ended, how many calls of the net there were, how many of the first link failed, and what became of the first
+// call.
+fn told_of(alloc: Global, client: &Holder, end: &Batch, net: &MemNet) -> Result<String, Fail> {
+    let (calls, failed) = (net.calls().len(), failed(net));
+    let first = call_told(alloc, client, 1)?;
+    Ok(format!(in alloc; "{end:?}, {calls} calls, {failed:?} failed, {first}\n")?)
+}
+
+// A net over the links, the last one first, which are left out then.
+fn net_of(alloc: Global, links: &mut Vec<MemLink>) -> Result<MemNet, Fail> {
+    let links = std::mem::replace(links, Vec::new(alloc));
+    Ok(MemNet::new(alloc, links, &[], 8)?)
 }
 
 // How many calls of the first link of a net have failed, where it was given back.
@@ -111,16 +145,16 @@ pub(crate) fn is_run<S: Seal>(
         return Ok(false);
     }
     let (alloc, mut draw) = (line.alloc, StepDraw::new());
-    let mut client = joins(alloc, seal, KEY_ID, &mut draw)?;
-    if !idles {
-        submits(&mut client, alloc, ADD_X_5, None)?;
-    }
-    let links = std::mem::replace(links, Vec::new(alloc));
-    let mut net = MemNet::new(alloc, links, &[], 8)?;
-    let (client, end) = ends(alloc, client, seal, &mut net, line.small()?, &mut draw)?;
-    let (calls, failed) = (net.calls().len(), failed(&net));
-    let first = call_told(alloc, &client, 1)?;
-    let told = format!(in alloc; "{end:?}, {calls} calls, {failed:?} failed, {first}\n")?;
-    text.push(told.as_str())?;
+    let retries = line.small()?;
+    let mut clock = ListClock::new(alloc, &[Moment::new(0)])?;
+    let mut net = net_of(alloc, links)?;
+    let told = match asks(alloc, idles, seal, &mut draw) {
+        Ok(client) => runs(
+            alloc, client, retries, &mut net, seal, &mut clock, &mut draw,
+        ),
+        Err(fail) => Err(fail),
+    };
+    drop(net);
+    text.push(told?.as_str())?;
     Ok(true)
 }

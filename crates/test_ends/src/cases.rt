@@ -7,13 +7,14 @@ ghost use Rattle.client_core.specs.Keys.{HasKeys, keys_in};
 use crate::batching::{is_linked, is_run};
 use crate::serving::{Sent, Served};
 use crate::talking::{
-    hears_line, hears_of_many, is_flushed, is_told, is_wished, joins, leaves, takes,
+    is_flushed, is_told, is_wished, joins, leaves, packet_of_line, packets_of_sessions, takes_all,
 };
 use crate::telling::Text;
 use client_core::Holder;
 use draws::{Seeded, StepDraw};
 use envelope::{ClearSeal, MtSeal, Seal};
 use mt_edge::MemLink;
+use octets::Octets;
 use std::alloc::Global;
 use std::test::Fail;
 use test_keys::{KEY_ID, TEMP_ID, both_keys};
@@ -65,17 +66,33 @@ impl<S: Seal> Case<S> {
         is_flushed(client, line, seal, draw, sent, text)
     }
 
+    // The packets that come down to the client by a line.
+    fn brought(&mut self, line: &mut Line<'_>, seal: &S) -> Result<Vec<Octets>, Fail> {
+        let alloc = line.alloc;
+        let packet = match line.verb {
+            "sessions" => return packets_of_sessions(line, seal, self.served.names),
+            "hear" | "hears" => packet_of_line(line, seal, &mut self.served)?,
+            "take" => Octets::copy(alloc, self.sent.down.as_slice())?,
+            _ => return Err(Fail::new("no such line")),
+        };
+        let mut packets = Vec::new(alloc);
+        packets.push(packet)?;
+        Ok(packets)
+    }
+
     // What becomes of the client by a line that tells something that comes to it, or that it leaves its session.
     fn becomes(&mut self, line: &mut Line<'_>, seal: &S, client: Holder) -> Result<Holder, Fail>
         ensures keys { IfOk result (λ left. keys_in (kept_of left) ≡ keys_in (kept_of client)) }
     {
-        match line.verb {
-            "hear" | "hears" => hears_line(client, line, seal, &mut self.served),
-            "sessions" => hears_of_many(client, line, seal, self.served.names),
-            "take" => takes(client, line.alloc, seal, self.sent.down.as_slice()),
-            "renew" => leaves(client, false, &mut self.draw),
-            "end" => leaves(client, true, &mut self.draw),
-            _ => Err(Fail::new("no such line")),
+        if line.verb == "renew" || line.verb == "end" {
+            return leaves(client, line.verb == "end", &mut self.draw);
+        }
+        match self.brought(line, seal) {
+            Ok(packets) => takes_all(client, line.alloc, seal, packets.as_slice()),
+            Err(fail) => {
+                drop(client);
+                Err(fail)
+            }
         }
     }
 
@@ -88,8 +105,29 @@ impl<S: Seal> Case<S> {
         match self.is_done(line, seal, &mut client) {
             Ok(true) => Ok(client),
             Ok(false) => self.becomes(line, seal, client),
-            Err(fail) => Err(fail),
+            Err(fail) => {
+                drop(client);
+                Err(fail)
+            }
         }
+    }
+
+    // The lines of a case, one after the other.
+    fn plays_all(
+        &mut self,
+        alloc: Global,
+        seal: &S,
+        client: Holder,
+        lines: &str,
+    ) -> Result<(), Fail>
+        requires keys { HasKeys (S.keys seal.now) (keys_in (kept_of client)) }
+    {
+        let mut client = client;
+        for line in lines.lines() {
+            client = self.plays(&mut Line::of(alloc, line), seal, client)?;
+        }
+        drop(client);
+        Ok(())
     }
 }
 
@@ -108,11 +146,26 @@ fn told<S: Seal + Drop>(
         draw: StepDraw::new(),
         text: Text::new(alloc),
     };
-    let mut client = joins(alloc, seal, key, &mut case.draw)?;
-    for line in lines.lines() {
-        client = case.plays(&mut Line::of(alloc, line), seal, client)?;
-    }
-    Ok(case.text.written)
+    let done = match joins(alloc, seal, key, &mut case.draw) {
+        Ok(client) => case.plays_all(alloc, seal, client, lines),
+        Err(fail) => Err(fail),
+    };
+    let written = std::mem::replace(&mut case.text.written, String::new(alloc));
+    drop(case);
+    done?;
+    Ok(written)
+}
+
+// The same of a seal for each end.
+fn told_by<S: Seal + Drop>(
+    alloc: Global,
+    seal: S,
+    servers: S,
+    key: u64,
+    lines: &str,
+) -> Result<String, Fail> {
+    let served = Served::new(alloc, servers, key);
+    told(alloc, &seal, served, key, lines)
 }
 
 // The seals of the keys, without a cipher and with it.
@@ -127,11 +180,11 @@ fn sealed(alloc: Global) -> Result<MtSeal, Fail> {
 // What is told of lines under a key, where this is how it is sealed.
 fn told_under(alloc: Global, how: &str, key: u64, lines: &str) -> Result<String, Fail> {
     if how == "clear" {
-        let served = Served::new(alloc, clear(alloc)?, key);
-        return told(alloc, &clear(alloc)?, served, key, lines);
+        let seal = clear(alloc)?;
+        return told_by(alloc, seal, clear(alloc)?, key, lines);
     }
-    let served = Served::new(alloc, sealed(alloc)?, key);
-    told(alloc, &sealed(alloc)?, served, key, lines)
+    let seal = sealed(alloc)?;
+    told_by(alloc, seal, sealed(alloc)?, key, lines)
 }
 
 /// What is told of a case: its first line, and then what its other lines give. The second line says how packets are sealed,

@@ -126,26 +126,39 @@ impl<S: Seal> Served<S> {
         match line.verb {
             "work" => {
                 let place = line.number()?;
-                let (server, draw) = (&mut self.server, &mut self.draw);
-                Ok(Some(works(server, alloc, place, &mut self.service, draw)?))
+                Ok(Some(self.runs(alloc, place)?))
             }
             "zeros" => {
                 let (place, words) = (line.number()?, line.small()?);
-                let mut service = Zeros { words };
-                let (server, draw) = (&mut self.server, &mut self.draw);
-                Ok(Some(works(server, alloc, place, &mut service, draw)?))
+                Ok(Some(self.runs_zeros(alloc, place, words)?))
             }
             "clock" => {
                 let now = Moment::new(line.number()?);
                 Ok(Some(self.server.tick(alloc, now, &mut self.draw)?))
             }
-            "open" => {
-                let Names { key, session, .. } = self.names;
-                let (now, draw) = (Moment::new(0), &mut self.draw);
-                Ok(Some(self.server.attach(alloc, key, session, now, draw)?))
-            }
+            "open" => Ok(Some(self.attaches(alloc)?)),
             _ => Ok(None),
         }
+    }
+
+    // The ready job of a place runs.
+    fn runs(&mut self, alloc: Global, place: u64) -> Result<Effects, Fail> {
+        let (server, draw) = (&mut self.server, &mut self.draw);
+        works(server, alloc, place, &mut self.service, draw)
+    }
+
+    // The same over a service whose reply is so many words of zeros.
+    fn runs_zeros(&mut self, alloc: Global, place: u64, words: u32) -> Result<Effects, Fail> {
+        let mut service = Zeros { words };
+        let (server, draw) = (&mut self.server, &mut self.draw);
+        works(server, alloc, place, &mut service, draw)
+    }
+
+    // The session is attached to a connection.
+    fn attaches(&mut self, alloc: Global) -> Result<Effects, Fail> {
+        let Names { key, session, .. } = self.names;
+        let (now, draw) = (Moment::new(0), &mut self.draw);
+        Ok(self.server.attach(alloc, key, session, now, draw)?)
     }
 
     // What an event gave, and how many jobs are ready then of how many.
@@ -172,8 +185,29 @@ impl<S: Seal> Served<S> {
         let Some(effects) = self.happens(line, sent)? else {
             return Ok(false);
         };
-        self.tells(line.alloc, &effects, sent, text)?;
+        let told = self.tells(line.alloc, &effects, sent, text);
+        drop(effects);
+        told?;
         Ok(true)
+    }
+
+    // A packet comes, and what was heard is told.
+    fn hears_and_tells(
+        &mut self,
+        alloc: Global,
+        packet: &[u8],
+        sent: &mut Sent,
+        text: &mut Text,
+    ) -> Result<(), Fail> {
+        let reply = self.hears(alloc, packet)?;
+        let heard = tell_heard(alloc, &reply, text);
+        let effects = effects_of(reply);
+        let told = match heard {
+            Ok(()) => self.tells(alloc, &effects, sent, text),
+            Err(fail) => Err(fail),
+        };
+        drop(effects);
+        told
     }
 
     /// Bytes come, or the packet of a message that isn't in a container, and what was heard is told: whether the line told that.
@@ -194,10 +228,7 @@ impl<S: Seal> Served<S> {
             }
             _ => return Ok(false),
         };
-        let reply = self.hears(alloc, packet.as_slice())?;
-        let heard = &reply.heard;
-        text.push(format!(in alloc; "{heard:?}\n")?.as_str())?;
-        self.tells(alloc, &effects_of(reply), sent, text)?;
+        self.hears_and_tells(alloc, packet.as_slice(), sent, text)?;
         Ok(true)
     }
 
@@ -215,7 +246,9 @@ impl<S: Seal> Served<S> {
         let packet = packet.as_slice();
         for count in 0..packet.len() {
             let reply = self.hears(alloc, &packet[..count])?;
-            text.push(letter(&reply, count))?;
+            let letter = letter(&reply, count);
+            drop(reply);
+            text.push(letter)?;
         }
         text.push("\n")?;
         Ok(true)
@@ -236,6 +269,12 @@ fn works<S: Seal, V: Service>(
         }
         _ => Err(Fail::new("no job")),
     }
+}
+
+// What a server heard as a line.
+fn tell_heard(alloc: Global, reply: &Reply, text: &mut Text) -> Result<(), Fail> {
+    let heard = &reply.heard;
+    text.push(format!(in alloc; "{heard:?}\n")?.as_str())
 }
 
 // What a packet gave.

@@ -4,7 +4,7 @@ ghost use Rattle.std.specs.Prelude.{◌≡◌, IfOk};
 ghost use Rattle.client_core.specs.Holding.{kept_of};
 ghost use Rattle.client_core.specs.Keys.{HasKeys, keys_in};
 
-use crate::parts::{Message, Names, Parts, packet};
+use crate::parts::{Names, Parts, packet};
 use crate::serving::{Sent, Served};
 use crate::telling::{Text, tell_sent};
 use client_core::{
@@ -51,15 +51,13 @@ pub(crate) fn submits(
 ) -> Result<(), Fail>
     ensures keys { keys_in (kept_of holder.new) ≡ keys_in (kept_of holder.old) }
 {
-    let submitted = match holder {
-        Holder::Opening(client) => client.submit(alloc, body, after).is_ok(),
-        Holder::Open(client) => client.submit(alloc, body, after).is_ok(),
-        Holder::Ended(_) => false,
-    };
-    if submitted {
-        return Ok(());
+    if holder.has_ended() {
+        return Err(Fail::new("it ended"));
     }
-    Err(Fail::new("it isn't taken"))
+    match holder.submit(alloc, body, after) {
+        Ok(_) => Ok(()),
+        Err(_) => Err(Fail::new("it isn't taken")),
+    }
 }
 
 // The same of a line: its body, and the number of the call behind which it is, if there is one.
@@ -72,18 +70,6 @@ fn submits_so(holder: &mut Holder, line: &mut Line<'_>) -> Result<(), Fail>
     }
     let after = CallNo { n: line.number()? };
     submits(holder, line.alloc, body.as_slice(), Some(after))
-}
-
-// A connection was opened.
-fn attaches(holder: &mut Holder) -> Result<(), Fail>
-    ensures keys { keys_in (kept_of holder.new) ≡ keys_in (kept_of holder.old) }
-{
-    match holder {
-        Holder::Opening(client) => client.attach(),
-        Holder::Open(client) => client.attach(),
-        Holder::Ended(_) => return Err(Fail::new("it ended")),
-    }
-    Ok(())
 }
 
 // An open client is asked for something: whether the line told that.
@@ -114,30 +100,12 @@ pub(crate) fn is_wished(holder: &mut Holder, line: &mut Line<'_>) -> Result<bool
         return Ok(true);
     }
     if line.verb == "attach" {
-        attaches(holder)?;
+        holder.attach();
         return Ok(true);
     }
     match holder {
         Holder::Open(client) => is_asked(client, line),
         Holder::Opening(_) | Holder::Ended(_) => Ok(false),
-    }
-}
-
-// What a client sends at a moment.
-fn flushes<S: Seal>(
-    holder: &mut Holder,
-    alloc: Global,
-    now: Moment,
-    seal: &S,
-    draw: &mut StepDraw,
-) -> Flush
-    requires keys { HasKeys (S.keys seal.now) (keys_in (kept_of holder.old)) }
-    ensures keys { keys_in (kept_of holder.new) ≡ keys_in (kept_of holder.old) }
-{
-    match holder {
-        Holder::Opening(client) => client.flush(alloc, now, seal, draw),
-        Holder::Open(client) => client.flush(alloc, now, seal, draw),
-        Holder::Ended(_) => Flush::Nothing,
     }
 }
 
@@ -157,7 +125,7 @@ pub(crate) fn is_flushed<S: Seal>(
         return Ok(false);
     }
     let now = Moment::new(line.number()?);
-    let flush = flushes(holder, line.alloc, now, seal, draw);
+    let flush = holder.flush(line.alloc, now, seal, draw);
     tells_flush(line.alloc, seal, flush, sent, text)?;
     Ok(true)
 }
@@ -181,13 +149,8 @@ fn tells_flush<S: Seal>(
     }
 }
 
-/// A packet comes down to a client.
-pub(crate) fn takes<S: Seal>(
-    holder: Holder,
-    alloc: Global,
-    seal: &S,
-    packet: &[u8],
-) -> Result<Holder, Fail>
+// A packet comes down to a client.
+fn takes<S: Seal>(holder: Holder, alloc: Global, seal: &S, packet: &[u8]) -> Result<Holder, Fail>
     ensures keys { IfOk result (λ taken. keys_in (kept_of taken) ≡ keys_in (kept_of holder)) }
 {
     match holder {
@@ -208,7 +171,10 @@ fn opening_takes<S: Seal>(
     match client.on_packet(alloc, Moment::new(0), seal, packet) {
         OpeningStep::Still(client) => Ok(Holder::Opening(client)),
         OpeningStep::Opened(client) => Ok(Holder::Open(client)),
-        OpeningStep::Memory(_) => Err(Fail::new("no memory")),
+        OpeningStep::Memory(client) => {
+            drop(client);
+            Err(Fail::new("no memory"))
+        }
     }
 }
 
@@ -223,56 +189,43 @@ fn open_takes<S: Seal>(
     match client.on_packet(alloc, Moment::new(0), seal, packet) {
         OpenStep::Still(client) => Ok(Holder::Open(client)),
         OpenStep::Ended(client) => Ok(Holder::Ended(client)),
-        OpenStep::Memory(_) => Err(Fail::new("no memory")),
+        OpenStep::Memory(client) => {
+            drop(client);
+            Err(Fail::new("no memory"))
+        }
     }
 }
 
-// The packet down of a message comes.
-fn hears<S: Seal>(
+/// Packets come down to a client, one after the other.
+pub(crate) fn takes_all<S: Seal>(
     holder: Holder,
     alloc: Global,
     seal: &S,
-    names: Names,
-    message: Message<'_>,
-) -> Result<Holder, Fail>
-    ensures keys { IfOk result (λ taken. keys_in (kept_of taken) ≡ keys_in (kept_of holder)) }
-{
-    let packet = packet(alloc, seal, Dir::Down, names, message)?;
-    takes(holder, alloc, seal, packet.as_slice())
-}
-
-// It is told of so many further sessions of the server, which have the numbers from 10 on.
-fn hears_of<S: Seal>(
-    holder: Holder,
-    alloc: Global,
-    seal: &S,
-    names: Names,
-    count: u64,
+    packets: &[Octets],
 ) -> Result<Holder, Fail>
     ensures keys { IfOk result (λ taken. keys_in (kept_of taken) ≡ keys_in (kept_of holder)) }
 {
     let mut holder = holder;
-    for k in 0..count {
-        let body = new_session(k.wrapping_add(10));
-        let number = k.wrapping_mul(4).wrapping_add(17);
-        holder = hears(holder, alloc, seal, names, (number, 1, &body))?;
+    for packet in packets {
+        holder = takes(holder, alloc, seal, packet.as_slice())?;
     }
     Ok(holder)
 }
 
-/// It is told of as many as a line says.
-pub(crate) fn hears_of_many<S: Seal>(
-    holder: Holder,
+/// The packets down that tell of as many further sessions of the server as a line says, which have the numbers from 10 on.
+pub(crate) fn packets_of_sessions<S: Seal>(
     line: &mut Line<'_>,
     seal: &S,
     names: Names,
-) -> Result<Holder, Fail>
-    ensures keys { IfOk result (λ taken. keys_in (kept_of taken) ≡ keys_in (kept_of holder)) }
-{
-    match line.number() {
-        Ok(count) => hears_of(holder, line.alloc, seal, names, count),
-        Err(fail) => Err(fail),
+) -> Result<Vec<Octets>, Fail> {
+    let (alloc, count) = (line.alloc, line.number()?);
+    let mut packets = Vec::new(alloc);
+    for k in 0..count {
+        let body = new_session(k.wrapping_add(10));
+        let number = k.wrapping_mul(4).wrapping_add(17);
+        packets.push(packet(alloc, seal, Dir::Down, names, (number, 1, &body))?)?;
     }
+    Ok(packets)
 }
 
 // `new_session_created` with this unique number.
@@ -289,7 +242,10 @@ pub(crate) fn leaves(holder: Holder, ends: bool, draw: &mut StepDraw) -> Result<
     match holder {
         Holder::Open(client) if ends => Ok(Holder::Ended(client.end())),
         Holder::Open(client) => Ok(Holder::Opening(client.renew(draw))),
-        Holder::Opening(_) | Holder::Ended(_) => Err(Fail::new("it isn't open")),
+        other => {
+            drop(other);
+            Err(Fail::new("it isn't open"))
+        }
     }
 }
 
@@ -302,18 +258,15 @@ fn message_of(line: &mut Line<'_>, parts: &mut Parts) -> Result<(u64, u32, Octet
     Ok((number, seq, parts.container(line.alloc)?))
 }
 
-/// The packet down of the message of a line comes.
-pub(crate) fn hears_line<S: Seal>(
-    holder: Holder,
+/// The packet down of the message of a line.
+pub(crate) fn packet_of_line<S: Seal>(
     line: &mut Line<'_>,
     seal: &S,
     served: &mut Served<S>,
-) -> Result<Holder, Fail>
-    ensures keys { IfOk result (λ left. keys_in (kept_of left) ≡ keys_in (kept_of holder)) }
-{
+) -> Result<Octets, Fail> {
     let (number, seq, body) = message_of(line, &mut served.parts)?;
     let message = (number, seq, body.as_slice());
-    hears(holder, line.alloc, seal, served.names, message)
+    packet(line.alloc, seal, Dir::Down, served.names, message)
 }
 
 // What became of a call.

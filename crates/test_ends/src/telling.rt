@@ -82,9 +82,21 @@ fn tell_out<S: Seal>(
     names: Names,
     out: &Out,
 ) -> Result<(), Fail> {
-    let packet = out.packet.as_slice();
-    let envelope = opened(alloc, seal, Dir::Down, packet)?;
-    tell_envelope(alloc, text, packet.len(), &envelope)?;
+    let envelope = opened(alloc, seal, Dir::Down, out.packet.as_slice())?;
+    let told = tell_down(alloc, text, names, out, &envelope);
+    drop(envelope);
+    told
+}
+
+// The same with its envelope.
+fn tell_down(
+    alloc: Global,
+    text: &mut Text,
+    names: Names,
+    out: &Out,
+    envelope: &Envelope,
+) -> Result<(), Fail> {
+    tell_envelope(alloc, text, out.packet.as_slice().len(), envelope)?;
     if (out.key, out.session) != (names.key, names.session) {
         text.push("of another key or session\n")?;
     }
@@ -108,11 +120,22 @@ fn tell_envelope(
     let (number, seq) = (envelope.number, envelope.seq);
     let body = envelope.body.as_slice();
     if !is_container(body) {
-        let body = shown(alloc, body)?;
-        return text.push(format!(in alloc; "{bytes} bytes: {number} {seq} {body}\n")?.as_str());
+        return text.push(message_line(alloc, bytes, number, seq, body)?.as_str());
     }
     text.push(format!(in alloc; "{bytes} bytes: {number} {seq}\n")?.as_str())?;
     tell_parts(alloc, text, number, body)
+}
+
+// A packet of one message.
+fn message_line(
+    alloc: Global,
+    bytes: usize,
+    number: u64,
+    seq: u32,
+    body: &[u8],
+) -> Result<String, Fail> {
+    let body = shown(alloc, body)?;
+    Ok(format!(in alloc; "{bytes} bytes: {number} {seq} {body}\n")?)
 }
 
 // The messages of a container, a line for each.
@@ -123,20 +146,29 @@ fn tell_parts(alloc: Global, text: &mut Text, number: u64, body: &[u8]) -> Resul
         return Err(Fail::new("no container"));
     };
     for part in parts {
-        let (number, seq) = (part.number, part.seq);
-        let body = shown(alloc, part.body)?;
-        text.push(format!(in alloc; "- {number} {seq} {body}\n")?.as_str())?;
+        text.push(part_line(alloc, part.number, part.seq, part.body)?.as_str())?;
     }
     Ok(())
 }
 
+// A message of a container.
+fn part_line(alloc: Global, number: u64, seq: u32, body: &[u8]) -> Result<String, Fail> {
+    let body = shown(alloc, body)?;
+    Ok(format!(in alloc; "- {number} {seq} {body}\n")?)
+}
+
 // An answer to a call: whether it ran, its number, its request and its reply.
-fn tell_entry(alloc: Global, text: &mut Text, names: Names, entry: &Entry) -> Result<(), Fail> {
+fn entry_line(alloc: Global, entry: &Entry) -> Result<String, Fail> {
     let verb = if entry.ran { "ran" } else { "answered" };
     let number = entry.number;
     let request = shown(alloc, entry.request.as_slice())?;
     let reply = shown(alloc, entry.reply.as_slice())?;
-    text.push(format!(in alloc; "{verb} {number} {request} {reply}\n")?.as_str())?;
+    Ok(format!(in alloc; "{verb} {number} {request} {reply}\n")?)
+}
+
+// The same as text, and whether it is another's.
+fn tell_entry(alloc: Global, text: &mut Text, names: Names, entry: &Entry) -> Result<(), Fail> {
+    text.push(entry_line(alloc, entry)?.as_str())?;
     if (entry.key, entry.session) != (names.key, names.session) {
         text.push("of another key or session\n")?;
     }
@@ -150,12 +182,17 @@ pub(crate) fn tell_sent<S: Seal>(
     seal: &S,
     packet: &Octets,
 ) -> Result<(), Fail> {
-    let bytes = packet.as_slice();
-    let envelope = opened(alloc, seal, Dir::Up, bytes)?;
-    let bytes = bytes.len();
+    let envelope = opened(alloc, seal, Dir::Up, packet.as_slice())?;
+    let line = sent_line(alloc, packet.as_slice().len(), &envelope);
+    drop(envelope);
+    text.push(line?.as_str())
+}
+
+// The same of its envelope.
+fn sent_line(alloc: Global, bytes: usize, envelope: &Envelope) -> Result<String, Fail> {
     let (salt, number, seq) = (envelope.salt, envelope.number, envelope.seq);
     let body = shown(alloc, envelope.body.as_slice())?;
-    text.push(format!(in alloc; "{bytes} bytes: {salt} {number} {seq} {body}\n")?.as_str())
+    Ok(format!(in alloc; "{bytes} bytes: {salt} {number} {seq} {body}\n")?)
 }
 
 // Bytes as hexadecimal digits; of many the length and the SHA-256.

@@ -1,6 +1,6 @@
 use Rattle.client_core.specs.Holding.{kept_of}
 use Rattle.client_core.specs.Keys.{HasKeys, keys_in}
-use Rattle.test_ends.proofs.cases.told.Given as goal
+use Rattle.test_ends.proofs.cases.Case.plays_all.Given as goal
 
 -- the seal has the client's keys
 abbrev pub invariant-loop-line : goal.invariant-loop-line
