@@ -53,11 +53,22 @@ fn sum(world: &World<ClearSeal, Regs>) -> Option<u8> {
     }
 }
 
-// How often a schedule is refused, how many packets it makes, and what becomes of the first call.
+// How often a schedule is refused in a world, how many packets that makes, and what becomes of the first call.
+fn told(
+    alloc: Global,
+    world: &mut World<ClearSeal, Regs>,
+    text: &[u8],
+) -> Result<(u32, u64, Option<u8>), Fail> {
+    let refused = stepped(alloc, world, text)?;
+    Ok((refused, world.packets(), sum(world)))
+}
+
+// The same in a new world.
 fn run(alloc: Global, text: &[u8]) -> Result<(u32, u64, Option<u8>), Fail> {
     let mut world = world(alloc)?;
-    let refused = stepped(alloc, &mut world, text)?;
-    Ok((refused, world.packets(), sum(&world)))
+    let told = told(alloc, &mut world, text);
+    drop(world);
+    told
 }
 
 // A call is answered; its result is lost in a restart; events that are refused.
@@ -77,17 +88,21 @@ fn schedules(rt: HostRuntime) -> Result<(), Fail> {
 }
 
 // The server's jobs and the client's session, where the call of a first run came to the server.
-#[test]
-fn cores_of_a_world(rt: HostRuntime) -> Result<(), Fail> {
-    let alloc = rt.alloc();
-    let mut world = world(alloc)?;
+fn has_cores(alloc: Global, world: &mut World<ClearSeal, Regs>) -> Result<(), Fail> {
     let schedule = b"client\ncall 1 add x 5\nflush 1\ngive 1\ngive 2\nflush 1\ngive 3\n";
-    same(stepped(alloc, &mut world, schedule)?, 0)?;
+    same(stepped(alloc, world, schedule)?, 0)?;
     same(world.server().ready(), 1)?;
     same(world.clients(), 1)?;
     if world.clients() != 1 {
         return Err(Fail::new("no client"));
     }
-    same(world.client(1).session(), 6_364_136_223_846_793_005)?;
-    Ok(())
+    same(world.client(1).session(), 6_364_136_223_846_793_005)
+}
+
+#[test]
+fn cores_of_a_world(rt: HostRuntime) -> Result<(), Fail> {
+    let mut world = world(rt.alloc())?;
+    let done = has_cores(rt.alloc(), &mut world);
+    drop(world);
+    done
 }
