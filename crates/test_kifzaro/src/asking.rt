@@ -1,12 +1,10 @@
 //! What a client is asked, and tells.
 
+use crate::passing::room_of;
 use crate::telling::Text;
 use kifzaro::{CallId, CallState, Cause, Client, Error};
 use std::test::Fail;
 use test_lines::Line;
-
-/// The most room that a line may lend.
-const ROOM_MAX: usize = 4096;
 
 // A call of a body is submitted, perhaps behind another.
 fn submits(client: &mut Client, line: &mut Line<'_>) -> Result<Result<CallId, Error>, Fail> {
@@ -101,9 +99,8 @@ fn is_known(client: &Client, call: CallId, text: &mut Text) -> Result<(), Fail> 
 // The reply to a call, in so much room.
 fn replies(client: &Client, line: &mut Line<'_>, text: &mut Text) -> Result<(), Fail> {
     let call = CallId { n: line.number()? };
-    let mut room = [0; ROOM_MAX];
-    let room = &mut room[..(line.small()? as usize).min(ROOM_MAX)];
-    match client.take_reply(call, room) {
+    let mut room = room_of(line)?;
+    match client.take_reply(call, &mut room) {
         Ok(len) => text.tell_bytes("reply", &room[..len.min(room.len())]),
         Err(error) => text.tell_error(&error),
     }

@@ -158,9 +158,10 @@ impl Way {
     }
 }
 
-// How much room a line lends.
-fn room_of(line: &mut Line<'_>) -> Result<usize, Fail> {
-    Ok((line.small()? as usize).min(ROOM_MAX))
+/// The room that a line lends. No contract says how much, as an array of a known length is computed by all that looks at it.
+pub(crate) fn room_of(line: &mut Line<'_>) -> Result<Vec<u8>, Fail> {
+    let len = (line.small()? as usize).min(ROOM_MAX);
+    Ok(Vec::from_elem(line.alloc, 0, len)?)
 }
 
 // The packet that waits went into room.
@@ -182,8 +183,8 @@ pub(crate) fn is_moved(
     match line.verb {
         "make" => text.tell_done("made", client.prepare_transmit(line.alloc, now))?,
         "take" => {
-            let (mut room, len) = ([0; ROOM_MAX], room_of(line)?);
-            tells_taken(client.take_transmit(&mut room[..len.min(ROOM_MAX)]), text)?;
+            let mut room = room_of(line)?;
+            tells_taken(client.take_transmit(&mut room), text)?;
         }
         "hear" => {
             let bytes = line.bytes()?;
@@ -212,11 +213,8 @@ pub(crate) fn is_moved_down(
 ) -> Result<bool, Fail> {
     match line.verb {
         "lend" => {
-            let (mut room, len) = ([0; ROOM_MAX], room_of(line)?);
-            tells_taken(
-                server.take_transmit(line.alloc, &mut room[..len.min(ROOM_MAX)]),
-                text,
-            )?;
+            let mut room = room_of(line)?;
+            tells_taken(server.take_transmit(line.alloc, &mut room), text)?;
         }
         "heard" => {
             let bytes = line.bytes()?;
