@@ -62,7 +62,8 @@ impl Case {
 
     // The run says what it says over what came so far.
     fn sends(&mut self, alloc: Global) -> Result<(), Fail> {
-        self.up = sent_by(self.ran(alloc)?);
+        let sent = sent_by(self.ran(alloc)?);
+        set(&mut self.up, sent);
         Ok(())
     }
 
@@ -91,7 +92,7 @@ impl Case {
         let (sent, left) = answered?;
         self.down.set(is_first, sent);
         if is_first {
-            self.left = left;
+            set(&mut self.left, left);
         }
         Ok(())
     }
@@ -110,12 +111,12 @@ impl Case {
         let given = &mut self.given;
         match line.verb {
             "word" => given.words.push(String::from_str(alloc, line.rest())?)?,
-            "words" => given.words = words_of(alloc, line.rest())?,
+            "words" => set(&mut given.words, words_of(alloc, line.rest())?),
             "fill" => put(alloc, &mut given.input, line.bytes()?.as_slice())?,
             "each" => put_each(&mut given.input, line)?,
-            "keys" => given.keys = keys_of(alloc, line.rest())?,
-            "file" => given.keys = line.bytes()?,
-            "journal" => given.journal = Some(line.bytes()?),
+            "keys" => set(&mut given.keys, keys_of(alloc, line.rest())?),
+            "file" => set(&mut given.keys, line.bytes()?),
+            "journal" => set(&mut given.journal, Some(line.bytes()?)),
             "read" => given.reads = piece_of(line)?,
             "write" => given.writes = piece_of(line)?,
             "fail" => given.faults.set(line)?,
@@ -141,11 +142,12 @@ impl Case {
                 let ended = self.ran(line.alloc)?;
                 let held = held(line.alloc, &ended.disks);
                 drop(ended);
-                self.given.journal = Some(held?);
+                set(&mut self.given.journal, Some(held?));
                 Ok(())
             }
             "turn" => {
-                self.down = std::mem::replace(&mut self.up, Stream::new(line.alloc));
+                let sent = std::mem::replace(&mut self.up, Stream::new(line.alloc));
+                set(&mut self.down, sent);
                 Ok(())
             }
             "front" => {
@@ -157,6 +159,11 @@ impl Case {
             _ => Err(Fail::new("no such line")),
         }
     }
+}
+
+// A value takes the place of another, which is let go of here: a generic function proves that once for each type.
+fn set<T: Drop>(place: &mut T, value: T) {
+    drop(std::mem::replace(place, value));
 }
 
 // What a server of these words writes that hears this over its one connection, and what its journal holds then. The net of a
