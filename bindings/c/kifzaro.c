@@ -56,9 +56,9 @@ const char *kf_status_text(kf_status status)
 {
     static const char *const texts[] = {
         "done", "out of memory", "a pointer is NULL", "no handle of this kind", "the room is too short", "the text isn't a key file",
-        "the key file hasn't that key of that kind", "a seed has 32 bytes", "the body isn't taken", "there is no such call", "the client has too many calls",
+        "the key file hasn't that key of that kind", "a seed has 32 bytes", "a body is whole words of 4 bytes, at most 262144, and no item of the session layer", "there is no such call", "the client has too many calls",
         "the client has ended", "the client isn't open", "the call isn't sent", "the call has no reply", "there may be too few numbers left",
-        "a request waits for its answer", "no request was handed out", "a reply is whole words and not too long",
+        "a request waits for its answer", "no request was handed out", "a reply is whole words of 4 bytes, at most 262144",
         "the packet is refused: its size", "the packet is refused: no good key has its identifier",
         "the packet is refused: its message key", "the packet is refused: the length of its body", "the packet is refused: its padding",
         "no bytes have such a length",

@@ -5,7 +5,7 @@
  *
  * A client under a key of a key file, and a call:
  *
- *     kf_client client = KF_INIT; uint64_t call; int decided = 0;
+ *     kf_client client = KF_INIT; uint64_t call; uint32_t state, code; int decided = 0;
  *     kf_client_new(&client, keys, keys_len, key, seed);
  *     kf_client_submit(&client, body, body_len, 0, &call);
  *     for (;;) {
@@ -13,6 +13,7 @@
  *         if (kf_client_calls_decided(&client, &decided) != KF_OK || decided) break;
  *         len = receive_packet(room, sizeof room);
  *         kf_client_handle_packet(&client, time(0), room, len);
+ *         if (kf_client_state(&client, call, &state, &code) == KF_OK && state == KF_HELD) kf_client_renew(&client);
  *     }
  *     kf_client_take_reply(&client, call, room, sizeof room, &len);
  *     kf_client_free(&client);

@@ -62,20 +62,24 @@ func (c *Client) Run(stream io.ReadWriter) error {
 			err = c.HandlePacket(Now(), packet)
 		}
 		if err == nil {
-			err = c.renewIfHeld()
+			err = c.RenewIfHeld()
 		}
 	}
 	return err
 }
 
-// Calls are held where the client's clock is ahead of the server's: once none is sent they go in another session.
-func (c *Client) renewIfHeld() error {
+// RenewIfHeld goes on in another session where the client's clock is ahead of the server's: where a call is held, and none is sent. It looks at
+// each call. Run does so.
+func (c *Client) RenewIfHeld() error {
 	isHeld := false
 	for call := uint64(1); ; call++ {
 		state, _, err := c.State(call)
 		switch {
 		case err == NoCall && isHeld:
-			return c.Renew()
+			if err = c.Renew(); err == NotOpen {
+				return nil
+			}
+			return err
 		case err == NoCall || state == Sent:
 			return nil
 		case err != nil:

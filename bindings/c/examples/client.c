@@ -8,7 +8,7 @@ static uint64_t key_id(const char *digits) { return __builtin_bswap64(strtoull(d
 
 int main(int count, char **words)
 {
-    kf_client client = KF_INIT; size_t len; uint64_t call; int decided = 0;
+    kf_client client = KF_INIT; size_t len; uint64_t call; int decided = 0; uint32_t state, code, held, sent;
     struct sockaddr_in at = { .sin_family = AF_INET, .sin_addr.s_addr = htonl(INADDR_LOOPBACK) };
     must(count > 3, "client PORT KEY_FILE KEY BODY..");
     uint8_t *keys = read_file(words[2], &len);
@@ -24,6 +24,9 @@ int main(int count, char **words)
         if (decided) break;
         must(receive_packet(server, room, sizeof room, &len), "the connection has ended");
         done(kf_client_handle_packet(&client, moment(), room, len));
+        held = sent = 0;
+        for (call = 1; kf_client_state(&client, call, &state, &code) == KF_OK; call++) { held += state == KF_HELD; sent += state == KF_SENT; }
+        if (held && !sent) kf_client_renew(&client);
     }
     for (call = 1; call + 3 < (uint64_t)count; call++) {
         done(kf_client_take_reply(&client, call, room, sizeof room, &len));

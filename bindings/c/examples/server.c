@@ -68,7 +68,8 @@ int main(int count, char **words)
     must(getrandom(seed, sizeof seed, 0) == sizeof seed, "there is no random source");
     done(kf_server_new(&server, keys, len, seed));
     free(keys);
-    int listening = socket(AF_INET, SOCK_STREAM, 0);
+    int listening = socket(AF_INET, SOCK_STREAM, 0), again = 1;
+    setsockopt(listening, SOL_SOCKET, SO_REUSEADDR, &again, sizeof again);
     at.sin_port = htons((uint16_t)atoi(words[1]));
     must(bind(listening, (struct sockaddr *)&at, sizeof at) == 0 && listen(listening, 128) == 0, "the port is taken");
     must(getsockname(listening, (struct sockaddr *)&at, &at_len) == 0, "the port has no number");

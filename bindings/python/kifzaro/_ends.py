@@ -2,6 +2,7 @@
 
 from __future__ import annotations
 
+import contextlib
 import ctypes
 import enum
 import hashlib
@@ -13,6 +14,7 @@ from collections.abc import Callable, Iterator
 from ctypes import byref, c_int, c_size_t, c_uint32, c_uint64
 from typing import NamedTuple, TypeVar, Union
 
+from ._errors import NotOpen
 from ._library import TOO_SHORT, Handle, library, must
 
 _ROOM_BYTES = 4096
@@ -155,6 +157,7 @@ class Client(_End):
 
     def __init__(self, keys: str | Bytes, key: Key, *, seed: Bytes | None = None, bind_to: tuple[Key, int] | None = None) -> None:
         super().__init__()
+        self._calls = self._decided = 0
         text, number, seed = _text(keys), _number(key), _seed(seed)
         if bind_to is None:
             self._do(library.kf_client_new, *text, number, seed)
@@ -165,6 +168,7 @@ class Client(_End):
         """Submits a call, whole words of 4 bytes, that is to execute after an earlier one if one is given. Its number, from 1 on."""
         call = c_uint64()
         self._do(library.kf_client_submit, *_taken(body), _fits(after or 0), byref(call))
+        self._calls = max(self._calls, call.value)
         return call.value
 
     def attach(self) -> None:
@@ -189,6 +193,15 @@ class Client(_End):
     def renew(self) -> None:
         """Goes on in another session: of calls that are sent it isn't known what became, and those that are held are queued."""
         self._do(library.kf_client_renew)
+
+    def renew_if_held(self) -> None:
+        """Goes on in another session where the client's clock is ahead of the server's: where a call is held, and none is sent."""
+        while self._decided < self._calls and self.state(self._decided + 1) >= State.DONE:
+            self._decided += 1
+        states = {self.state(call) for call in range(self._decided + 1, self._calls + 1)}
+        if State.HELD in states and State.SENT not in states:
+            with contextlib.suppress(NotOpen):
+                self.renew()
 
     def end(self) -> None:
         """Ends: of calls that are sent it isn't known what became, and others that aren't decided are refused."""

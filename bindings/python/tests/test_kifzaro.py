@@ -97,8 +97,7 @@ class Talks(unittest.TestCase):
             for _name, packet in server.transmits():
                 client.handle_packet(packet, NOW + 60)
             states.append(client.state(call))
-            if states[-1] == State.HELD:
-                client.renew()
+            client.renew_if_held()
         self.assertEqual((states.count(State.HELD), states[-1]), (1, State.DONE))
 
     def test_a_reply_of_many_bytes(self):

@@ -172,6 +172,28 @@ impl Client {
         must(unsafe { raw::kf_client_renew(&mut self.0) })
     }
 
+    /// Goes on in another session where the client's clock is ahead of the server's: where a call is held, and none is sent. It looks at
+    /// each call.
+    ///
+    /// # Errors
+    ///
+    /// None but `Memory`.
+    pub fn renew_if_held(&mut self) -> Result<(), Error> {
+        let mut is_held = false;
+        for call in 1.. {
+            match self.state(CallId(call)) {
+                Ok(State::Sent) => return Ok(()),
+                Ok(state) => is_held |= state == State::Held,
+                Err(Error::NoCall) => break,
+                Err(error) => return Err(error),
+            }
+        }
+        match if is_held { self.renew() } else { Ok(()) } {
+            Err(Error::NotOpen) => Ok(()),
+            done => done,
+        }
+    }
+
     /// Ends: of calls that are sent it isn't known what became, and others that aren't decided are refused with code 0.
     ///
     /// # Errors

@@ -46,6 +46,28 @@ fn packets_that_come_twice_run_once() -> Result<(), Error> {
 }
 
 #[test]
+fn a_clock_that_is_ahead() -> Result<(), Error> {
+    let mut client = Client::new(&keys(), KEY, &[1; 32])?;
+    let mut server = Server::new(&keys(), &[2; 32])?;
+    let (call, mut held) = (client.submit(b"ask me!!", None)?, 0);
+    for _ in 0..9 {
+        while let Some(packet) = client.poll_transmit(NOW + 60)? {
+            server.handle_packet(NOW, &packet)?;
+        }
+        while let Some(request) = server.next_request()? {
+            server.answer(NOW, &request)?;
+        }
+        while let Some((_name, packet)) = server.poll_transmit()? {
+            client.handle_packet(NOW + 60, &packet)?;
+        }
+        held += usize::from(client.state(call)? == State::Held);
+        client.renew_if_held()?;
+    }
+    assert_eq!((held, client.state(call)?), (1, State::Done));
+    Ok(())
+}
+
+#[test]
 fn what_is_refused() -> Result<(), Error> {
     assert_eq!(Client::new(b"no key file", KEY, &[1; 32]).err(), Some(Error::BadKeys));
     assert_eq!(Client::new(b"", KEY, &[1; 32]).err(), Some(Error::NoKey));

@@ -1,5 +1,5 @@
 -- A run with a journal, from its parts.
-use Rattle.std.proofs.Common.{◌≡◌, ◌≢◌, ◌<◌, inl, inr, ℕ, zero, suc, List, [], ◌∷◌, ◌++◌, length, slice_index_or, slice_set, Option, None, Some, IfSome, IsSomeAnd, refl, sym, ap, subst, ◌∙◌, arith}
+use Rattle.std.proofs.Common.{◌≡◌, ◌≢◌, ◌<◌, ◌⊎◌, inl, inr, ℕ, zero, suc, List, [], ◌∷◌, ◌++◌, length, slice_index_or, slice_set, Option, None, Some, IfSome, IsSome, IsSomeAnd, refl, sym, ap, subst, ◌∙◌, arith}
 use Rattle.auth_keys.specs.declared.ring.RingKey.{RingKey}
 use Rattle.commands.specs.declared.command.ServeOptions.{ServeOptions}
 use Rattle.disks.specs.Named.{Closes, CountsDone, Named, NamesTold, Opens as OpensNamed, OpensNone as OpensNoFile, Puts}
@@ -7,15 +7,16 @@ use Rattle.disks.specs.Told.{DiskTold}
 use Rattle.mt_edge.specs.Faults.{Rose, one_more}
 use Rattle.mt_edge.specs.declared.net_call.NetCall.{NetCall}
 use Rattle.sess_journal.specs.Keeping.{Seen, count_of, disk_in, place_by}
-use Rattle.sess_records.specs.Calls.{HasCause, IfNotJournal}
+use Rattle.sess_journal.specs.Opening.{HaveSameRecords, IsKeptAfter}
+use Rattle.sess_records.specs.Calls.{HasCause}
 use Rattle.sess_records.specs.declared.fault.JournalFault.{JournalFault}
 use Rattle.sess_records.specs.declared.fault.JournalFault.TheVariants as causes
 use Rattle.server_rules.specs.Server.{Server}
 use Rattle.statuses.specs.Outside.{HadFault, Outside, Part}
 use Rattle.statuses.specs.declared.status.Status.{Status}
 use Rattle.cmd_serve.specs.Connections.{Between, behind_all}
-use Rattle.cmd_serve.specs.Inner.{CountsFile, CountsFileBy, EndsBecause, FoundIn, GoesFrom, IsBecause, IsBegun, OpensFile, RunsWith, ServesKept, ShutsFile, UnlessBroken, first_kept, served_in}
-use Rattle.cmd_serve.specs.Journals.{AsksFor, Drawing, FoundBy, Holds, HoldsSome, IsFilled, IsOpen, IsShut, Keeping, LeavesBy, SpellsServer, StartsBy, Unopened, Faulty, Foreign, Cut, New, Old}
+use Rattle.cmd_serve.specs.Inner.{CountsFile, CountsFileBy, EndsBecause, FoundIn, GoesFrom, IsBecause, IsBegun, IsLeft, OpensFile, RunsWith, ServesKept, ShutsFile, UnlessBroken, first_kept, served_in}
+use Rattle.cmd_serve.specs.Journals.{AsksFor, Drawing, FoundBy, Holds, HoldsSome, IsFilled, IsOpen, IsShut, Keeping, LeavesBy, SpellsServer, StartsBy, Unopened, Faulty, Foreign, Starved, New, Old}
 use Rattle.cmd_serve.specs.Runs.{CountsBy, CountsDisks, CountsKept, Course, Draws, Unread, Refused, Unbegun, Shut, Deaf, Mute, Serves, Ends, EndsShut, FailsNever, FailsOnce, GoesBy, IfTold, JournalsBy, Opens, Registers}
 use Rattle.cmd_serve.specs.declared.ending.Ending.{Ending}
 use Rattle.cmd_serve.specs.declared.ending.Ending.TheVariants.{Served, Stopped, NotTaken, Journal, Full, Memory}
@@ -106,9 +107,9 @@ module _ {D : Type 0} (drawing : Drawing D) (ring : List RingKey) (name : List �
   failed-found (Some first) (Some last) told = tt
 
   pub with-failed : {N O K : Type 0} (options : ServeOptions) (calls : N → Option (List NetCall)) (faulted : N → ℕ) (net : N) (out : Outside O) (given : Option (List ℕ)) (draw : D) (disks : Part NamesTold K) (one : Status)
-      → options.journal ≡ Some name → IfTold disks (λ before after. OpensNoFile name before after) → FailsOnce disks → EndsShut out Faulty one
+      → options.journal ≡ Some name → IfTold disks (λ before after. OpensNoFile name before after) → FailsOnce disks → (IsSome (disks.told disks.before) → IsSome (disks.told disks.after)) → EndsShut out Faulty one
       → RunsWith drawing options ring (record { told = calls; faults = faulted; before = net; after = net }) out (record { before = given; after = given }) (record { before = draw; after = draw }) disks one
-  with-failed options calls faulted net out given draw disks one named told once ends = record {
+  with-failed options calls faulted net out given draw disks one named told once tells ends = record {
     course = Shut ring;
     keeping = Faulty;
     own = refl;
@@ -124,6 +125,7 @@ module _ {D : Type 0} (drawing : Drawing D) (ring : List RingKey) (name : List �
           };
         });
     counts = once;
+    tells = tells;
     ends = ends;
     full = λ none. absurd none;
   }
@@ -134,7 +136,7 @@ asks-any : (name : List ℕ) (keeping : Keeping) (before after : NamesTold) → 
 asks-any name Unopened before after opened asked = absurd (opened refl)
 asks-any name Faulty before after opened asked = inl asked
 asks-any name (Foreign at) before after opened asked = asked
-asks-any name Cut before after opened asked = asked
+asks-any name Starved before after opened asked = asked
 asks-any name (New seed) before after opened asked = asked
 asks-any name (Old seed entries now) before after opened asked = asked
 
@@ -166,7 +168,7 @@ shut-counts D disks ring causes.Memory keeping was own between is none cause nev
 
 module _ {D : Type 0} (drawing : Drawing D) (ring : List RingKey) (name : List ℕ) where
   shut-found : (fault : JournalFault) (keeping : Keeping) (found left : DiskTold) (before after : NamesTold) → IsBecause fault keeping → FoundIn drawing ring keeping found.contents
-      → IfNotJournal fault (λ at. left.contents ≡ found.contents) → Passes name found.contents left.contents before after → FoundBy drawing ring name keeping before after
+      → IsKeptAfter fault found.contents left.contents → Passes name found.contents left.contents before after → FoundBy drawing ring name keeping before after
   shut-found causes.Disk keeping found left before after is inside same passed = subst (λ (some : Keeping). FoundBy drawing ring name some before after) (sym is) tt
   shut-found (causes.NotJournal at) keeping found left before after is inside same passed =
       let foreign : FoundIn drawing ring (Foreign at) found.contents = subst (λ (some : Keeping). FoundIn drawing ring some found.contents) is inside in
@@ -180,15 +182,16 @@ module _ {D : Type 0} (drawing : Drawing D) (ring : List RingKey) (name : List �
         after_is = subst (λ (bytes : List ℕ). Holds name bytes after.files) same passed.left_is;
       })
   shut-found causes.Memory keeping found left before after is inside same passed =
-      let some_bytes : FoundIn drawing ring Cut found.contents = subst (λ (some : Keeping). FoundIn drawing ring some found.contents) is inside in
-      subst (λ (some : Keeping). FoundBy drawing ring name some before after) (sym is) (record { bytes = found.contents; holds = passed.found_is; says = some_bytes })
+      let some_bytes : FoundIn drawing ring Starved found.contents = subst (λ (some : Keeping). FoundIn drawing ring some found.contents) is inside in
+      subst (λ (some : Keeping). FoundBy drawing ring name some before after) (sym is)
+      (record { bytes = found.contents; some = some_bytes; left = left.contents; kept = same; before_is = passed.found_is; after_is = passed.left_is })
 
   open-found : (keeping : Keeping) (found left : DiskTold) (before after : NamesTold) → IsOpen keeping → FoundIn drawing ring keeping found.contents → Passes name found.contents left.contents before after
       → FoundBy drawing ring name keeping before after
   open-found Unopened found left before after opened inside passed = absurd opened
   open-found Faulty found left before after opened inside passed = absurd opened
   open-found (Foreign at) found left before after opened inside passed = absurd opened
-  open-found Cut found left before after opened inside passed = absurd opened
+  open-found Starved found left before after opened inside passed = absurd opened
   open-found (New seed) found left before after opened inside passed = subst (λ (bytes : List ℕ). Holds name bytes before.files) inside passed.found_is
   open-found (Old seed entries now) found left before after opened inside passed = record { bytes = found.contents; holds = passed.found_is; says = inside }
 
@@ -200,15 +203,16 @@ module _ {D : Type 0} (drawing : Drawing D) (ring : List RingKey) (name : List �
   open-leaves Unopened server draw found left before after opened spells passed = absurd opened
   open-leaves Faulty server draw found left before after opened spells passed = absurd opened
   open-leaves (Foreign at) server draw found left before after opened spells passed = absurd opened
-  open-leaves Cut server draw found left before after opened spells passed = absurd opened
+  open-leaves Starved server draw found left before after opened spells passed = absurd opened
   open-leaves (New seed) server draw found left before after opened spells passed = record { bytes = left.contents; holds = passed.left_is; says = spells }
   open-leaves (Old seed entries now) server draw found left before after opened spells passed = record { bytes = left.contents; holds = passed.left_is; says = spells }
 
 same-bytes : (fault : JournalFault) (was is : Option DiskTold) (found left : DiskTold) → was ≡ Some found → is ≡ Some left
-    → IfNotJournal fault (λ at. IfSome was (λ before. IsSomeAnd is (λ after. after.contents ≡ before.contents))) → IfNotJournal fault (λ at. left.contents ≡ found.contents)
+    → IsLeft fault was is → IsKeptAfter fault found.contents left.contents
 same-bytes causes.Disk was is found left begun ended same = tt
 same-bytes (causes.NotJournal at) was is found left begun ended same = of-both was is found left (λ before after. after.contents ≡ before.contents) begun ended same
-same-bytes causes.Memory was is found left begun ended same = tt
+same-bytes causes.Memory was is found left begun ended same =
+    of-both was is found left (λ before after. (after.contents ≡ before.contents) ⊎ HaveSameRecords before.contents after.contents) begun ended same
 
 -- ---- a server comes of it
 
@@ -250,7 +254,7 @@ module _ {K : Type 0} (disks : Part NamesTold K) (was own between : ℕ) (none :
   kept-counts Unopened course opened counted = absurd opened
   kept-counts Faulty course opened counted = absurd opened
   kept-counts (Foreign at) course opened counted = absurd opened
-  kept-counts Cut course opened counted = absurd opened
+  kept-counts Starved course opened counted = absurd opened
   kept-counts (New seed) course opened counted = kept-course course counted
   kept-counts (Old seed entries now) course opened counted = kept-course course counted
 
@@ -297,7 +301,7 @@ module _ {N O D K E : Type 0} (drawing : Drawing D) (options : ServeOptions) (ri
     (told : E → Option DiskTold) (place faults : E → ℕ) (disk : E) (disks : Part NamesTold K) (between : K) (given given_then : Option (List ℕ)) (draw draw_then : D)
     (none_yet : faults disk ≡ 0)
     (opens : IfSome (disks.told between) (λ after. IsSomeAnd (disks.told disks.before) (λ before. IsSomeAnd (told disk) (λ holds. OpensNamed name (place disk) holds.contents before after))))
-    (never : disks.faults between ≡ disks.faults disks.before) where
+    (never : disks.faults between ≡ disks.faults disks.before) (tells : IsSome (disks.told disks.before) → IsSome (disks.told disks.after)) where
   pub with-shut : (back : E × JournalFault) (calls : N → Option (List NetCall)) (faulted : N → ℕ) (net : N) (out : Outside O) (one : Status)
       → ShutsFile drawing ring told place faults disk given given_then draw draw_then back
       → IfSome (disks.told disks.after) (λ after. IsSomeAnd (disks.told between) (λ before. IsSomeAnd (told back.0) (λ holds. Closes (place back.0) holds.contents before after)))
@@ -326,6 +330,7 @@ module _ {N O D K E : Type 0} (drawing : Drawing D) (options : ServeOptions) (ri
               };
             });
         counts = shut-counts D disks ring back.1 shuts.keeping (faults disk) (faults back.0) (disks.faults between) shuts.cause none_yet shuts.counted never done;
+        tells = tells;
         ends = shut-ends out back.1 shuts.keeping one shuts.cause ends;
         full = λ none. absurd none;
       }
@@ -368,6 +373,7 @@ module _ {N O D K E : Type 0} (drawing : Drawing D) (options : ServeOptions) (ri
             subst (λ (some : List RingKey). IfSome (told back.0) (λ file. SpellsServer drawing some server last file.contents)) opened.ring_is whole in
             open-leaves drawing ring name opened.keeping server last found left before after opened.opened (of-told (told back.0) left (λ file. SpellsServer drawing ring server last file.contents) also own_spells) passed)));
         counts = kept-counts disks (faults disk) (faults back.0) (disks.faults between) none_yet never done opened.keeping serves.course opened.opened counted;
+        tells = tells;
         ends = ends-any options out ring opened.keeping serves.course back.1 own serves.ends;
         full = λ is. subst (λ (journal : Option (List ℕ)). IfSome journal (λ some. IfTold disks (λ before after. HoldsSome some IsFilled after))) (sym named)
             (passes-told name (told disk) (told back.0) (place disk) (place back.0) (disks.told disks.before) (disks.told between) (disks.told disks.after) (λ before after. HoldsSome name IsFilled after) same opens closes

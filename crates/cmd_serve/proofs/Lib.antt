@@ -9,3 +9,4 @@ pub mod Openings
 pub mod Keepings
 pub mod Kepts
 pub mod Noting
+pub mod Judging

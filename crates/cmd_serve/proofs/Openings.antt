@@ -17,8 +17,8 @@ use Rattle.sess_records.specs.declared.fault.JournalFault.TheVariants as causes
 use Rattle.sess_records.specs.declared.records.Record.{Record}
 use Rattle.sess_journal.specs.Files.{IsNoJournalAt}
 use Rattle.sess_journal.specs.Replay.{Bases, Basis, Reached, Replays, at_first}
-use Rattle.cmd_serve.specs.Inner.{FoundIn, OpensFile, ShutsFile}
-use Rattle.cmd_serve.specs.Journals.{Drawing, Keeping, SeedsBy, basis_of, Faulty, Foreign, Cut, New, Old}
+use Rattle.cmd_serve.specs.Inner.{FoundIn, IsLeft, OpensFile, ShutsFile}
+use Rattle.cmd_serve.specs.Journals.{Drawing, Keeping, SeedsBy, basis_of, Faulty, Foreign, Starved, New, Old}
 
 -- the laws on records
 pub record RecordLaws (D : Type 0) : Type 0 where
@@ -150,12 +150,12 @@ module _ {K D : Type 0} (drawing : Drawing D) (ring : List RingKey) (told : K �
     same_place = same.place_is;
   }
   shut-by disk other causes.Memory now given given_then draw gave some refused lawful kept cause same = record {
-    keeping = Cut;
+    keeping = Starved;
     cause = refl;
     found = some;
     clock = (now, gave);
     seeded = refl;
-    unharmed = tt;
+    unharmed = kept;
     counted = cause;
     same_place = same.place_is;
   }
@@ -226,7 +226,7 @@ module _ {K D : Type 0} (drawing : Drawing D) (ring : List RingKey) (told : K �
     found = found-at (told was) (told disk) shuts.keeping telling shuts.found;
     clock = shuts.clock;
     seeded = shuts.seeded;
-    unharmed = subst (λ (some : Option DiskTold). IfNotJournal back.1 (λ at. IfSome some (λ before. IsSomeAnd (told back.0) (λ after. after.contents ≡ before.contents)))) telling shuts.unharmed;
+    unharmed = subst (λ (some : Option DiskTold). IsLeft back.1 some (told back.0)) telling shuts.unharmed;
     counted = subst (λ (count : ℕ). HasCause back.1 count (faults back.0)) counts shuts.counted;
     same_place = shuts.same_place ∙ there;
   }

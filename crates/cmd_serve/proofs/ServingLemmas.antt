@@ -182,6 +182,7 @@ with-alone drawing options ring net out moments draws tells counts disks one non
   goes = subst (λ (journal : Option (List ℕ)). GoesBy drawing options journal (record { told = tells; faults = counts; before = disks; after = disks }) moments draws Unopened runs.course) (sym none)
       (refl, runs.serves, runs.whole);
   counts = refl;
+  tells = λ some. some;
   ends = runs.ends;
   full = λ is. subst (λ (journal : Option (List ℕ)). IfSome journal (λ name. IfTold (record { told = tells; faults = counts; before = disks; after = disks }) (λ before after. HoldsSome name IsFilled after))) (sym none) tt;
 }
@@ -196,6 +197,7 @@ with-none drawing options ring told faulted net writes counts_out out given draw
   calls = calls-none options.port told faulted net;
   goes = idle-unbegun drawing options options.journal tells counts disks given draw;
   counts = refl;
+  tells = λ some. some;
   ends = (refl, refl);
   full = λ none. absurd none;
 }

@@ -18,11 +18,12 @@ use Rattle.statuses.specs.declared.status.Status.{Status}
 use Rattle.statuses.specs.declared.status.Status.TheVariants as status
 use Rattle.cmd_serve.specs.Connections.{AreNoted, AreNotedBy, Connection, CountsEnding, EndsBy}
 use Rattle.cmd_serve.specs.Inner.{IsWith, RunsWith}
-use Rattle.cmd_serve.specs.Journals.{Drawing, HoldsSome, IsFilled, IsOpen, Keeping, Unopened, Faulty, Foreign, Cut, New, Old}
+use Rattle.cmd_serve.specs.Journals.{Drawing, HoldsSome, IsFilled, IsOpen, Keeping, Unopened, Faulty, Foreign, Starved, New, Old}
 use Rattle.cmd_serve.specs.Lines.{listening}
 use Rattle.cmd_serve.specs.Runs.{Calls, CountsDisks, CountsFiles, CountsNet, Course, Draws, Unread, Refused, Unbegun, Shut, Deaf, Mute, Serves, Ends, EndsShut, FailsNever, FailsOnce, GoesBy, HasKeys, IfTold, IsFull, Makes, Moments, Reads, Registers, ServeRun, WritesFirst}
 use Rattle.cmd_serve.specs.declared.ending.Ending.{Ending}
 use Rattle.cmd_serve.specs.declared.ending.Ending.TheVariants.{Served, Stopped, NotTaken, Journal, Full, Memory}
+use Rattle.cmd_serve.proofs.Judging.{judged}
 use Rattle.cmd_serve.proofs.Texts.{rose-once}
 
 -- ---- the text of a key file
@@ -223,7 +224,7 @@ write-fault options out keeping Unbegun one ends is = let both : status.Memory �
 write-fault options out Unopened (Shut ring) one ends is = absurd ends
 write-fault options out Faulty (Shut ring) one ends is = write-fault-of out status.JournalFault _ one ends (λ same. cc) is
 write-fault options out (Foreign at) (Shut ring) one ends is = write-fault-of out status.JournalFault _ one ends (λ same. cc) is
-write-fault options out Cut (Shut ring) one ends is = let both : status.Memory ≡ status.WriteFault = sym ends.0 ∙ is in cc
+write-fault options out Starved (Shut ring) one ends is = let both : status.Memory ≡ status.WriteFault = sym ends.0 ∙ is in cc
 write-fault options out (New seed) (Shut ring) one ends is = absurd ends
 write-fault options out (Old seed entries now) (Shut ring) one ends is = absurd ends
 write-fault options out keeping (Deaf ring) one ends is = write-fault-of out status.NotListening _ one ends (λ same. cc) is
@@ -245,7 +246,7 @@ shut-status : {O : Type 0} (out : Outside O) (keeping : Keeping) (one which : St
 shut-status out Unopened one which ends other never short is = ends
 shut-status out Faulty one which ends other never short is = other-status out status.JournalFault _ one which ends other never is
 shut-status out (Foreign at) one which ends other never short is = other-status out status.JournalFault _ one which ends other never is
-shut-status out Cut one which ends other never short is = short (sym ends.0 ∙ is)
+shut-status out Starved one which ends other never short is = short (sym ends.0 ∙ is)
 shut-status out (New seed) one which ends other never short is = ends
 shut-status out (Old seed entries now) one which ends other never short is = ends
 
@@ -286,7 +287,7 @@ broken-kept : {D K : Type 0} (disks : Part NamesTold K) (ring : List RingKey) (c
 broken-kept disks ring connections Unopened opens counted = absurd opens
 broken-kept disks ring connections Faulty opens counted = absurd opens
 broken-kept disks ring connections (Foreign at) opens counted = absurd opens
-broken-kept disks ring connections Cut opens counted = absurd opens
+broken-kept disks ring connections Starved opens counted = absurd opens
 broken-kept disks ring connections (New seed) opens counted = rose-once (disks.faults disks.before) (disks.faults disks.after) counted
 broken-kept disks ring connections (Old seed entries now) opens counted = rose-once (disks.faults disks.before) (disks.faults disks.after) counted
 
@@ -301,7 +302,7 @@ shut-by : {D K O : Type 0} (disks : Part NamesTold K) (out : Outside O) (keeping
 shut-by disks out Unopened course one ends counted is = absurd ends
 shut-by disks out Faulty course one ends counted is = inl (rose-once (disks.faults disks.before) (disks.faults disks.after) counted)
 shut-by disks out (Foreign at) course one ends counted is = inr (at, refl)
-shut-by disks out Cut course one ends counted is = let both : status.Memory ≡ status.JournalFault = sym ends.0 ∙ is in cc
+shut-by disks out Starved course one ends counted is = let both : status.Memory ≡ status.JournalFault = sym ends.0 ∙ is in cc
 shut-by disks out (New seed) course one ends counted is = absurd ends
 shut-by disks out (Old seed entries now) course one ends counted is = absurd ends
 
@@ -337,7 +338,7 @@ shut-or-short : {D K O : Type 0} (disks : Part NamesTold K) (out : Outside O) (k
 shut-or-short disks out Unopened course one ends counted call own = absurd ends
 shut-or-short disks out Faulty course one ends counted call own = absurd (call (rose-once (disks.faults disks.before) (disks.faults disks.after) counted))
 shut-or-short disks out (Foreign at) course one ends counted call own = absurd (own at refl)
-shut-or-short disks out Cut course one ends counted call own = ends.0
+shut-or-short disks out Starved course one ends counted call own = ends.0
 shut-or-short disks out (New seed) course one ends counted call own = absurd ends
 shut-or-short disks out (Old seed entries now) course one ends counted call own = absurd ends
 
@@ -444,16 +445,17 @@ first-called (Some first) (Some last) P W written made = λ more. written made.0
 -- ---- all of it
 
 pub run-of : {F N O D K : Type 0} (drawing : Drawing D) (options : ServeOptions) (files : Part FilesTold F) (net : Part (List NetCall) N) (out : Outside O) (moments : Moments) (draws : Draws D) (disks : Part NamesTold K) (one : Status) (course : Course D) (keeping : Keeping)
-    → Reads options.keys files course → Calls options.port net course → GoesBy drawing options options.journal disks moments draws keeping course → CountsDisks disks keeping course → Ends options out keeping course one
+    → Reads options.keys files course → Calls options.port net course → GoesBy drawing options options.journal disks moments draws keeping course → CountsDisks disks keeping course → (IsSome (disks.told disks.before) → IsSome (disks.told disks.after)) → Ends options out keeping course one
     → (IsFull course → IfSome options.journal (λ name. IfTold disks (λ before after. HoldsSome name IsFilled after)))
     → ServeRun drawing options files net out moments draws disks one
-run-of drawing options files net out moments draws disks one course keeping reads calls goes counts ends full = record {
+run-of drawing options files net out moments draws disks one course keeping reads calls goes counts tells ends full = record {
   course = course;
   keeping = keeping;
   reads = reads;
   calls = calls;
   serves = goes;
   counts = counts;
+  tells = tells;
   ends = ends;
   full = full;
   few = few-calls (net.told net.before) (net.told net.after) (1 + options.conns) (Makes options.port course) (λ made is. few-made drawing options disks moments draws keeping course made is goes) calls.made;
@@ -462,6 +464,7 @@ run-of drawing options files net out moments draws disks one course keeping read
   not_listening = not-listening options net out keeping course one calls.counted ends;
   keys_refused = keys-refused options files out keeping course one reads.counted ends;
   journal_fault = no-journal drawing options disks moments draws out keeping course one goes counts ends;
+  judges = judged drawing options options.journal disks out moments draws keeping course one goes tells ends (no-journal drawing options disks moments draws out keeping course one goes counts ends);
   completeness = complete drawing options files net out moments draws disks keeping course one (files.told files.before) reads.counted calls.counted goes counts ends reads.taken;
 }
 
@@ -483,7 +486,7 @@ pub run-with : {F N O D K : Type 0} (drawing : Drawing D) (options : ServeOption
     → OneReading → GivesBy (files.told files.before) options.keys (Ok ring) → IfTold files (AsksOnce options.keys) → FailsNever files → RunsWith drawing options ring net out moments draws disks one
     → ServeRun drawing options files net out moments draws disks one
 run-with drawing options files net out moments draws disks one ring reading has asked never runs =
-    run-of drawing options files net out moments draws disks one runs.course runs.keeping (reads-with options.keys files ring runs.course reading runs.own has asked never) runs.calls runs.goes runs.counts runs.ends runs.full
+    run-of drawing options files net out moments draws disks one runs.course runs.keeping (reads-with options.keys files ring runs.course reading runs.own has asked never) runs.calls runs.goes runs.counts runs.tells runs.ends runs.full
 
 -- before the ring is there nothing else is done
 pub idle-unread : {D K : Type 0} (drawing : Drawing D) (options : ServeOptions) (journal : Option (List ℕ)) (told : K → Option NamesTold) (faults : K → ℕ) (disks : K) (given : Option (List ℕ)) (draw : D)
@@ -506,18 +509,18 @@ pub run-unread : {F N O D K : Type 0} (drawing : Drawing D) (options : ServeOpti
     → ServeRun drawing options files (record { told = told; faults = faults; before = net; after = net }) out (record { before = given; after = given }) (record { before = draw; after = draw }) (record { told = tells; faults = counts; before = disks; after = disks }) one
 run-unread {F} {N} {O} {D} {K} drawing options files told faults net out given draw tells counts disks one asked once ends =
     run-of drawing options files (record { told = told; faults = faults; before = net; after = net }) out (record { before = given; after = given }) (record { before = draw; after = draw }) (record { told = tells; faults = counts; before = disks; after = disks }) one Unread Unopened
-    (reads-unread {D = D} options.keys files asked once) (calls-unread {D = D} options.port told faults net) (idle-unread drawing options options.journal tells counts disks given draw) refl ends (λ none. absurd none)
+    (reads-unread {D = D} options.keys files asked once) (calls-unread {D = D} options.port told faults net) (idle-unread drawing options options.journal tells counts disks given draw) refl (λ some. some) ends (λ none. absurd none)
 
 pub run-refused : {F N O D K : Type 0} (drawing : Drawing D) (options : ServeOptions) (files : Part FilesTold F) (told : N → Option (List NetCall)) (faults : N → ℕ) (net : N) (out : Outside O) (given : Option (List ℕ)) (draw : D) (tells : K → Option NamesTold) (counts : K → ℕ) (disks : K) (one : Status) (line : ℕ)
     → OneReading → HasText (files.told files.before) options.keys (λ text. IsRefusedAt text line) → IfTold files (AsksOnce options.keys) → FailsNever files → Ends {D = D} {O = O} options out Unopened (Refused line) one
     → ServeRun drawing options files (record { told = told; faults = faults; before = net; after = net }) out (record { before = given; after = given }) (record { before = draw; after = draw }) (record { told = tells; faults = counts; before = disks; after = disks }) one
 run-refused {F} {N} {O} {D} {K} drawing options files told faults net out given draw tells counts disks one line reading has asked never ends =
     run-of drawing options files (record { told = told; faults = faults; before = net; after = net }) out (record { before = given; after = given }) (record { before = draw; after = draw }) (record { told = tells; faults = counts; before = disks; after = disks }) one (Refused line) Unopened
-    (reads-refused {D = D} options.keys files line reading has asked never) (calls-refused {D = D} options.port line told faults net) (idle-refused drawing options options.journal tells counts disks given draw line) refl ends (λ none. absurd none)
+    (reads-refused {D = D} options.keys files line reading has asked never) (calls-refused {D = D} options.port line told faults net) (idle-refused drawing options options.journal tells counts disks given draw line) refl (λ some. some) ends (λ none. absurd none)
 
 pub run-unbegun : {F N O D K : Type 0} (drawing : Drawing D) (options : ServeOptions) (files : Part FilesTold F) (told : N → Option (List NetCall)) (faults : N → ℕ) (net : N) (out : Outside O) (given : Option (List ℕ)) (draw : D) (tells : K → Option NamesTold) (counts : K → ℕ) (disks : K) (one : Status)
     → IfTold files (AsksOnce options.keys) → FailsNever files → Ends {D = D} {O = O} options out Unopened Unbegun one
     → ServeRun drawing options files (record { told = told; faults = faults; before = net; after = net }) out (record { before = given; after = given }) (record { before = draw; after = draw }) (record { told = tells; faults = counts; before = disks; after = disks }) one
 run-unbegun {F} {N} {O} {D} {K} drawing options files told faults net out given draw tells counts disks one asked never ends =
     run-of drawing options files (record { told = told; faults = faults; before = net; after = net }) out (record { before = given; after = given }) (record { before = draw; after = draw }) (record { told = tells; faults = counts; before = disks; after = disks }) one Unbegun Unopened
-    (reads-unbegun {D = D} options.keys files asked never) (calls-none {D = D} options.port told faults net) (idle-unbegun drawing options options.journal tells counts disks given draw) refl ends (λ none. absurd none)
+    (reads-unbegun {D = D} options.keys files asked never) (calls-none {D = D} options.port told faults net) (idle-unbegun drawing options options.journal tells counts disks given draw) refl (λ some. some) ends (λ none. absurd none)

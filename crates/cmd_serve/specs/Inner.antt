@@ -1,5 +1,5 @@
 -- What the private parts of a run do: scaffolding of proofs, and no promise.
-use Rattle.std.specs.Prelude.{◌≡◌, ◌≢◌, ◌<◌, ◌+◌, ℕ, Bool, true, false, List, ◌∷◌, [], ◌++◌, codes, length, Option, Some, None, IfSome, IsSome, IsSomeAnd, ⊤}
+use Rattle.std.specs.Prelude.{◌≡◌, ◌≢◌, ◌⊎◌, ◌<◌, ◌+◌, ℕ, Bool, true, false, List, ◌∷◌, [], ◌++◌, codes, length, Option, Some, None, IfSome, IsSome, IsSomeAnd, ⊤}
 use Rattle.auth_keys.specs.declared.ring.RingKey.{RingKey}
 use Rattle.mt_edge.specs.Faults.{Rose, one_more}
 use Rattle.mt_edge.specs.declared.act.Act.TheVariants.{Ready, Failed as NotReady}
@@ -14,12 +14,13 @@ use Rattle.server_core.specs.declared.desk.DeskFault.{DeskFault}
 use Rattle.server_core.specs.declared.desk.DeskFault.TheVariants as faults
 use Rattle.server_rules.specs.Server.{Server}
 use Rattle.sess_journal.specs.Keeping.{Seen, StandsFor, count_of, disk_in, journal_bytes_max, place_by}
-use Rattle.sess_records.specs.Calls.{HasCause, IfNotJournal}
+use Rattle.sess_records.specs.Calls.{HasCause}
 use Rattle.sess_records.specs.Format.{Spells}
 use Rattle.sess_records.specs.Seen.{File}
 use Rattle.sess_records.specs.declared.fault.JournalFault.{JournalFault}
 use Rattle.sess_records.specs.declared.fault.JournalFault.TheVariants as causes
 use Rattle.sess_journal.specs.Files.{IsNoJournalAt}
+use Rattle.sess_journal.specs.Opening.{HaveSameRecords}
 use Rattle.statuses.specs.Outside.{HadFault, IsUntouched, Outside, Part, Tells, Writes, WritesFront}
 use Rattle.statuses.specs.declared.status.Status.TheVariants as status
 use Rattle.statuses.specs.declared.status.Status.{Status}
@@ -31,7 +32,7 @@ use Rattle.server_node.specs.declared.conn.ConnEnd.TheVariants as ends
 use Rattle.cmd_serve.specs.Connections.{AllGoOn, AreConnections, AreNoted, AreNotedBy, Between, Connection, CountsEnding, EndsBy, IsConnection, IsNoted, behind_all}
 use Rattle.cmd_serve.specs.Lines.{journal_fault, listening, not_listening}
 use Rattle.cmd_serve.specs.Packets.{outside_of}
-use Rattle.cmd_serve.specs.Journals.{AsksClock, Drawing, HoldsSome, IsFilled, IsOpen, IsUnlawful, Keeping, SeedsBy, SpellsServer, StartsBy, basis_of, event_bytes_max, Unopened, Faulty, Foreign, Cut, New, Old}
+use Rattle.cmd_serve.specs.Journals.{AsksClock, Drawing, HoldsSome, IsFilled, IsOpen, IsUnlawful, Keeping, SeedsBy, SpellsServer, StartsBy, basis_of, event_bytes_max, Unopened, Faulty, Foreign, Starved, New, Old}
 use Rattle.cmd_serve.specs.Runs.{Calls, CountsDisks, Course, Unread, Refused, Unbegun, Shut, Deaf, Mute, Serves, Draws, Ends, FailsNever, FailsOnce, GoesBy, IfTold, IsBroken, IsFull, IsServed, Moments, Registers, ServesBy}
 use Rattle.cmd_serve.specs.declared.ending.Ending.{Ending}
 use Rattle.cmd_serve.specs.declared.ending.Ending.TheVariants.{Served, Stopped, NotTaken, Journal, Full, Memory}
@@ -55,6 +56,7 @@ pub record RunsWith {N O D K : Type 0} (drawing : Drawing D) (options : ServeOpt
   pub calls : Calls options.port net course
   pub goes : GoesBy drawing options options.journal disks moments draws keeping course
   pub counts : CountsDisks disks keeping course
+  pub tells : IsSome (disks.told disks.before) → IsSome (disks.told disks.after)
   pub ends : Ends options out keeping course result
   pub full : IsFull course → IfSome options.journal (λ name. IfTold disks (λ before after. HoldsSome name IsFilled after))
 
@@ -188,7 +190,7 @@ abbrev pub FoundIn : {D : Type 0} → Drawing D → List RingKey → Keeping →
 FoundIn drawing ring Unopened bytes = ⊤
 FoundIn drawing ring Faulty bytes = ⊤
 FoundIn drawing ring (Foreign at) bytes = (bytes ≢ []) × IsNoJournalAt (basis_of drawing ring) at bytes × IsUnlawful drawing ring bytes
-FoundIn drawing ring Cut bytes = bytes ≢ []
+FoundIn drawing ring Starved bytes = bytes ≢ []
 FoundIn drawing ring (New seed) bytes = bytes ≡ []
 FoundIn drawing ring (Old seed entries now) bytes = Spells seed entries bytes
 
@@ -211,7 +213,13 @@ pub record OpensFile {K D : Type 0} (drawing : Drawing D) (ring : List RingKey) 
 abbrev pub IsBecause : JournalFault → Keeping → Type 0
 IsBecause causes.Disk keeping = keeping ≡ Faulty
 IsBecause (causes.NotJournal at) keeping = keeping ≡ Foreign at
-IsBecause causes.Memory keeping = keeping ≡ Cut
+IsBecause causes.Memory keeping = keeping ≡ Starved
+
+-- what it holds when it is given back, by the cause: after a call of its disk that failed nothing is said of it
+abbrev pub IsLeft : JournalFault → Option DiskTold → Option DiskTold → Type 0
+IsLeft causes.Disk before after = ⊤
+IsLeft (causes.NotJournal at) before after = IfSome before (λ was. IsSomeAnd after (λ is. is.contents ≡ was.contents))
+IsLeft causes.Memory before after = IfSome before (λ was. IsSomeAnd after (λ is. (is.contents ≡ was.contents) ⊎ HaveSameRecords was.contents is.contents))
 
 -- None comes of it, for this cause.
 pub record ShutsFile {K D : Type 0} (drawing : Drawing D) (ring : List RingKey) (told : K → Option DiskTold) (place faults : K → ℕ) (disk : K) (given given_then : Option (List ℕ)) (draw draw_then : D)
@@ -221,7 +229,7 @@ pub record ShutsFile {K D : Type 0} (drawing : Drawing D) (ring : List RingKey) 
   pub found : IfSome (told disk) (λ file. FoundIn drawing ring keeping file.contents)
   pub clock : AsksClock keeping given given_then
   pub seeded : SeedsBy drawing keeping draw draw_then
-  pub unharmed : IfNotJournal back.1 (λ at. IfSome (told disk) (λ before. IsSomeAnd (told back.0) (λ after. after.contents ≡ before.contents)))
+  pub unharmed : IsLeft back.1 (told disk) (told back.0)
   pub counted : HasCause back.1 (faults disk) (faults back.0)
   pub same_place : place back.0 ≡ place disk
 

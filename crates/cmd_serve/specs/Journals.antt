@@ -7,7 +7,7 @@ use Rattle.envelope.specs.Lock.{mt_lock}
 use Rattle.server_node.specs.Connection.{Gave}
 use Rattle.server_rules.specs.Server.{Server, fresh_server}
 use Rattle.sess_journal.specs.Keeping.{ending, journal_bytes_max}
-use Rattle.sess_journal.specs.Opening.{IsLawfulFile}
+use Rattle.sess_journal.specs.Opening.{HaveSameRecords, IsLawfulFile}
 use Rattle.sess_records.specs.declared.records.Record.{Record}
 use Rattle.sess_records.specs.Format.{Spells}
 use Rattle.sess_journal.specs.Files.{IsNoJournalAt}
@@ -22,7 +22,7 @@ pub data Keeping : Type 0 where
   -- it is neither empty nor a journal: at this place, the first one, stands neither a header nor a record that is lawful there
   Foreign : (at : ℕ) → Keeping
   -- memory runs out before there is a server
-  Cut : Keeping
+  Starved : Keeping
   -- it was empty, and has a new journal of this seed
   New : (seed : List ℕ) → Keeping
   -- it spelt these records of this seed when it was opened, at this moment
@@ -33,7 +33,7 @@ abbrev pub IsOpen : Keeping → Type 0
 IsOpen Unopened = ⊥
 IsOpen Faulty = ⊥
 IsOpen (Foreign at) = ⊥
-IsOpen Cut = ⊥
+IsOpen Starved = ⊥
 IsOpen (New seed) = ⊤
 IsOpen (Old seed entries now) = ⊤
 
@@ -42,7 +42,7 @@ abbrev pub IsShut : Keeping → Type 0
 IsShut Unopened = ⊥
 IsShut Faulty = ⊤
 IsShut (Foreign at) = ⊤
-IsShut Cut = ⊤
+IsShut Starved = ⊤
 IsShut (New seed) = ⊥
 IsShut (Old seed entries now) = ⊥
 
@@ -59,7 +59,7 @@ abbrev pub AsksFor : List ℕ → Keeping → NamesTold → NamesTold → Type 0
 AsksFor name Unopened before after = after.asked ≡ before.asked
 AsksFor name Faulty before after = (after.asked ≡ before.asked ++ name ∷ []) ⊎ (after.asked ≡ before.asked)
 AsksFor name (Foreign at) before after = after.asked ≡ before.asked ++ name ∷ []
-AsksFor name Cut before after = after.asked ≡ before.asked ++ name ∷ []
+AsksFor name Starved before after = after.asked ≡ before.asked ++ name ∷ []
 AsksFor name (New seed) before after = after.asked ≡ before.asked ++ name ∷ []
 AsksFor name (Old seed entries now) before after = after.asked ≡ before.asked ++ name ∷ []
 
@@ -80,7 +80,7 @@ abbrev pub SeedsBy : {D : Type 0} → Drawing D → Keeping → D → D → Type
 SeedsBy drawing Unopened before after = after ≡ before
 SeedsBy drawing Faulty before after = (after ≡ before) ⊎ (after ≡ draw_after drawing.step 4 before)
 SeedsBy drawing (Foreign at) before after = after ≡ before
-SeedsBy drawing Cut before after = after ≡ before
+SeedsBy drawing Starved before after = after ≡ before
 SeedsBy drawing (New seed) before after = (seed ≡ next_bytes drawing.step 32 before) × (after ≡ draw_after drawing.step 4 before)
 SeedsBy drawing (Old seed entries now) before after = after ≡ before
 
@@ -91,7 +91,7 @@ abbrev pub AsksClock : Keeping → Option (List ℕ) → Option (List ℕ) → T
 AsksClock Unopened before after = after ≡ before
 AsksClock Faulty before after = (after ≡ before) ⊎ ((now : ℕ) × Gave (now ∷ []) before after)
 AsksClock (Foreign at) before after = (now : ℕ) × Gave (now ∷ []) before after
-AsksClock Cut before after = (now : ℕ) × Gave (now ∷ []) before after
+AsksClock Starved before after = (now : ℕ) × Gave (now ∷ []) before after
 AsksClock (New seed) before after = after ≡ before
 AsksClock (Old seed entries now) before after = Gave (now ∷ []) before after
 
@@ -100,6 +100,17 @@ AsksClock (Old seed entries now) before after = Gave (now ∷ []) before after
 -- bytes that spell no lawful records
 abbrev pub IsUnlawful : {D : Type 0} → Drawing D → List RingKey → List ℕ → Type 0
 IsUnlawful drawing ring bytes = (seed : List ℕ) (entries : List Record) (reached : Reached) → IsLawfulFile (basis_of drawing ring) seed entries reached bytes → ⊥
+
+-- the records that they spell are lawful under this ring
+pub record SpellsLawful {D : Type 0} (drawing : Drawing D) (ring : List RingKey) (bytes : List ℕ) : Type 0 where
+  pub seed : List ℕ
+  pub entries : List Record
+  pub reached : Reached
+  pub lawful : IsLawfulFile (basis_of drawing ring) seed entries reached bytes
+
+-- bytes of which a server comes: none, or those of a journal
+abbrev pub IsJournal : {D : Type 0} → Drawing D → List RingKey → List ℕ → Type 0
+IsJournal drawing ring bytes = (bytes ≡ []) ⊎ SpellsLawful drawing ring bytes
 
 -- some bytes, of which P says something
 pub record HoldsSome (name : List ℕ) (P : List ℕ → Type 0) (told : NamesTold) : Type 0 where
@@ -124,12 +135,21 @@ pub record StaysForeign {D : Type 0} (drawing : Drawing D) (ring : List RingKey)
   pub before_is : Holds name bytes before.files
   pub after_is : Holds name bytes after.files
 
--- before the run, by what becomes of it; a foreign one holds it at the return too
+-- some bytes, and at the return the same ones or others that spell the same records
+pub record KeepsRecords (name : List ℕ) (before after : NamesTold) : Type 0 where
+  pub bytes : List ℕ
+  pub some : bytes ≢ []
+  pub left : List ℕ
+  pub kept : (left ≡ bytes) ⊎ HaveSameRecords bytes left
+  pub before_is : Holds name bytes before.files
+  pub after_is : Holds name left after.files
+
+-- before the run, by what becomes of it; where no server comes of it and no call failed, nothing of it is lost at the return
 abbrev pub FoundBy : {D : Type 0} → Drawing D → List RingKey → List ℕ → Keeping → NamesTold → NamesTold → Type 0
 FoundBy drawing ring name Unopened before after = ⊤
 FoundBy drawing ring name Faulty before after = ⊤
 FoundBy drawing ring name (Foreign at) before after = StaysForeign drawing ring name at before after
-FoundBy drawing ring name Cut before after = HoldsSome name (λ bytes. bytes ≢ []) before
+FoundBy drawing ring name Starved before after = KeepsRecords name before after
 FoundBy drawing ring name (New seed) before after = Holds name [] before.files
 FoundBy drawing ring name (Old seed entries now) before after = HoldsSome name (Spells seed entries) before
 
@@ -148,7 +168,7 @@ abbrev pub LeavesBy : {D : Type 0} → Drawing D → List RingKey → List ℕ �
 LeavesBy drawing ring name Unopened server draw after = ⊤
 LeavesBy drawing ring name Faulty server draw after = ⊤
 LeavesBy drawing ring name (Foreign at) server draw after = ⊤
-LeavesBy drawing ring name Cut server draw after = ⊤
+LeavesBy drawing ring name Starved server draw after = ⊤
 LeavesBy drawing ring name (New seed) server draw after = HoldsSome name (SpellsServer drawing ring server draw) after
 LeavesBy drawing ring name (Old seed entries now) server draw after = HoldsSome name (SpellsServer drawing ring server draw) after
 
@@ -169,6 +189,6 @@ abbrev pub StartsBy : {D : Type 0} → Drawing D → List RingKey → Keeping �
 StartsBy drawing ring Unopened drawn server draw = (server ≡ fresh_server) × (draw ≡ drawn)
 StartsBy drawing ring Faulty drawn server draw = ⊥
 StartsBy drawing ring (Foreign at) drawn server draw = ⊥
-StartsBy drawing ring Cut drawn server draw = ⊥
+StartsBy drawing ring Starved drawn server draw = ⊥
 StartsBy drawing ring (New seed) drawn server draw = (server ≡ fresh_server) × (draw ≡ drawing.standing_at seed 0)
 StartsBy drawing ring (Old seed entries now) drawn server draw = Resumes drawing ring seed entries now server draw

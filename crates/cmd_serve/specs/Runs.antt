@@ -17,7 +17,7 @@ use Rattle.statuses.specs.Outside.{HadFault, IsUntouched, Outside, Part, Tells, 
 use Rattle.statuses.specs.declared.status.Status.{Status}
 use Rattle.statuses.specs.declared.status.Status.TheVariants as status
 use Rattle.cmd_serve.specs.Connections.{AreConnections, AreNotedBy, Between, Connection, CountsEnding, EndsBy, behind_all}
-use Rattle.cmd_serve.specs.Journals.{AsksClock, AsksFor, Drawing, FoundBy, HoldsSome, IsFilled, IsOpen, IsShut, Keeping, LeavesBy, SeedsBy, StartsBy, Unopened, Faulty, Foreign, Cut, New, Old}
+use Rattle.cmd_serve.specs.Journals.{AsksClock, AsksFor, Drawing, FoundBy, Holds, HoldsSome, IsFilled, IsJournal, IsOpen, IsShut, Keeping, LeavesBy, SeedsBy, StartsBy, Unopened, Faulty, Foreign, Starved, New, Old}
 use Rattle.cmd_serve.specs.Lines.{journal_fault, last_line, listening, not_listening}
 use Rattle.cmd_serve.specs.Packets.{outside_of}
 use Rattle.cmd_serve.specs.declared.ending.Ending.{Ending}
@@ -47,7 +47,7 @@ pub data Course (D : Type 0) : Type 0 where
   Unread : Course D
   -- its text is no ring, and the first fault is on this line
   Refused : (line : ℕ) → Course D
-  -- memory runs out before the net is asked for anything
+  -- memory runs out before a journal or the net is asked for anything
   Unbegun : Course D
   -- the text is this ring; there is to be a journal, and no server comes of its file
   Shut : (ring : List RingKey) → Course D
@@ -243,7 +243,7 @@ abbrev pub CountsDisks : {D K : Type 0} → Part NamesTold K → Keeping → Cou
 CountsDisks disks Unopened course = IsUntouched disks
 CountsDisks disks Faulty course = FailsOnce disks
 CountsDisks disks (Foreign at) course = FailsNever disks
-CountsDisks disks Cut course = FailsNever disks
+CountsDisks disks Starved course = FailsNever disks
 CountsDisks disks (New seed) course = CountsKept disks course
 CountsDisks disks (Old seed entries now) course = CountsKept disks course
 
@@ -264,6 +264,26 @@ IsFull (Serves ring connections Memory) = ⊥
 
 -- ---- the status, and what is written
 
+-- the run came past its key file, whose text is this ring
+abbrev pub HasRing : {D : Type 0} → List RingKey → Course D → Type 0
+HasRing ring Unread = ⊥
+HasRing ring (Refused line) = ⊥
+HasRing ring Unbegun = ⊥
+HasRing ring (Shut own) = own ≡ ring
+HasRing ring (Deaf own) = own ≡ ring
+HasRing ring (Mute own) = own ≡ ring
+HasRing ring (Serves own connections ending) = own ≡ ring
+
+-- The status by what stood in the files of the journal's name, which may be several: where each is empty or a journal under the
+-- ring, the journal's fault comes of a call of the disk that failed, or of a full journal, alone; and where none is, it comes, but for
+-- a failed write and want of memory.
+pub record Judges {D K : Type 0} (drawing : Drawing D) (name : List ℕ) (disks : Part NamesTold K) (course : Course D) (one : Status) : Type 0 where
+  pub taken : IfSome (disks.told disks.before) (λ told. (ring : List RingKey) → HasRing ring course
+      → ((bytes : List ℕ) → Holds name bytes told.files → IsJournal drawing ring bytes) → one ≡ status.JournalFault → HadFault disks ⊎ IsFull course)
+  pub refused : IfSome (disks.told disks.before) (λ told. (ring : List RingKey) → HasRing ring course
+      → ((bytes : List ℕ) → Holds name bytes told.files → IsJournal drawing ring bytes → ⊥)
+      → (one ≡ status.JournalFault) ⊎ (one ≡ status.WriteFault) ⊎ (one ≡ status.Memory))
+
 -- of a sink, where it tells what was written: this text was written whole, before anything else
 abbrev pub WritesFirst : {O : Type 0} → Outside O → List ℕ → Type 0
 WritesFirst out text =
@@ -283,7 +303,7 @@ abbrev pub EndsShut : {O : Type 0} → Outside O → Keeping → Status → Type
 EndsShut out Unopened one = ⊥
 EndsShut out Faulty one = Tells out status.JournalFault journal_fault one
 EndsShut out (Foreign at) one = Tells out status.JournalFault journal_fault one
-EndsShut out Cut one = (one ≡ status.Memory) × IsUntouched out
+EndsShut out Starved one = (one ≡ status.Memory) × IsUntouched out
 EndsShut out (New seed) one = ⊥
 EndsShut out (Old seed entries now) one = ⊥
 
@@ -309,6 +329,8 @@ pub record ServeRun {F N O D K : Type 0} (drawing : Drawing D) (options : ServeO
   pub calls : Calls options.port net course
   pub serves : GoesBy drawing options options.journal disks moments draws keeping course
   pub counts : CountsDisks disks keeping course
+  -- files that tell go on telling
+  pub tells : IsSome (disks.told disks.before) → IsSome (disks.told disks.after)
   -- the status and what is written
   pub ends : Ends options out keeping course result
   -- The connections end by a full journal only where its file leaves no room, at the return, for what one event may add to it.
@@ -322,6 +344,7 @@ pub record ServeRun {F N O D K : Type 0} (drawing : Drawing D) (options : ServeO
   pub not_listening : result ≡ status.NotListening → HadFault net
   pub keys_refused : result ≡ status.KeysRefused → HadFault files ⊎ ((line : ℕ) × (course ≡ Refused line))
   pub journal_fault : result ≡ status.JournalFault → HadFault disks ⊎ ((at : ℕ) × (keeping ≡ Foreign at)) ⊎ IsFull course
+  pub judges : IfSome options.journal (λ name. Judges drawing name disks course result)
   -- Nothing but a fault, a file that is neither empty nor a journal, a full one, or want of memory, keeps a run with a lawful key
   -- file from being done.
   pub completeness : IfSome (files.told files.before) (λ told. (text : List ℕ) (ring : List RingKey) → IsFileOf told.files options.keys text → IsRingOf text ring

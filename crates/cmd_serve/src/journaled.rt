@@ -21,7 +21,7 @@ use std::alloc::Global;
 const EVENT_BYTES_MAX: u64 = 1_048_598;
 
 /// A server that keeps a journal. Where that has no room for an event it answers `Memory`, since it leaves the server as it was,
-/// and notes why. So its faults are `Memory` and `Disk`; `Closed`, which comes behind a `Disk` alone, is one of the former too.
+/// and notes why. It answers `Memory` for `Closed` too, which comes only behind a `Disk`: so its faults are `Memory` and `Disk`.
 #[derive(Drop)]
 pub(crate) struct Journaled<K: Disk + Drop, S: Seal + Drop, D: Seeded + Drop> {
     kept: Kept<K, S, D>,

@@ -1,4 +1,5 @@
-//! Functions as a program has them over the library, with contracts of their own that need no proof file.
+//! Functions as a program has them over the library, with contracts of their own. They need no proof file, but for the line that names
+//! the form for which a packet fits.
 
 ghost use Rattle.std.specs.Prelude.{◌≡◌, ◌≤◌, None, IfNone, IfOk, IfSome, Ok, OnErr, OnSome, Some, false, is_some, length, max, true};
 ghost use Rattle.call_table.specs.Table.{call_no};
@@ -65,7 +66,23 @@ pub fn answers_with(
     Ok(true)
 }
 
-/// Puts the packet that a client sends next behind a text, in a frame of the wire's form: whether there is one.
+/// Puts a packet behind a text, in a frame of the wire's form: whether it may go over it.
+pub fn frames(
+    wire: &mut Wire<Framed>,
+    alloc: Global,
+    packet: &[u8],
+    out: &mut Octets,
+) -> Result<bool, Error>
+    ensures framed { IfOk result (λ there. there ≡ false → out.new ≡ out.old) }
+{
+    if !fits(packet) {
+        return Ok(false);
+    }
+    wire.put(alloc, packet, out)?;
+    Ok(true)
+}
+
+/// The same of the packet that a client sends next, if there is one.
 pub fn frames_next(
     client: &mut Client,
     wire: &mut Wire<Framed>,
@@ -76,15 +93,12 @@ pub fn frames_next(
     ensures framed { IfOk result (λ there. there ≡ false → out.new ≡ out.old) }
 {
     match client.poll_transmit(alloc, now)? {
-        Some(packet) if fits(packet.as_slice()) => {
-            wire.put(alloc, packet.as_slice(), out)?;
-            Ok(true)
-        }
-        _ => Ok(false),
+        Some(packet) => frames(wire, alloc, packet.as_slice(), out),
+        None => Ok(false),
     }
 }
 
-/// The same of a server.
+/// The same of the packet that a server sends next.
 pub fn frames_out(
     server: &mut Server,
     wire: &mut Wire<Framed>,
@@ -94,11 +108,8 @@ pub fn frames_out(
     ensures framed { IfOk result (λ there. there ≡ false → out.new ≡ out.old) }
 {
     match server.poll_transmit(alloc) {
-        Some(packet) if fits(packet.packet.as_slice()) => {
-            wire.put(alloc, packet.packet.as_slice(), out)?;
-            Ok(true)
-        }
-        _ => Ok(false),
+        Some(packet) => frames(wire, alloc, packet.packet.as_slice(), out),
+        None => Ok(false),
     }
 }
 

@@ -47,11 +47,10 @@ fn plays(
     way: &mut Way,
     text: &mut Text,
 ) -> Result<(), Fail> {
-    let now = way.now;
-    if is_clients(client, line, now, text)? {
+    if is_clients(client, line, way.clock, text)? {
         return Ok(());
     }
-    if is_servers(server, line, client.session(), now, text)? {
+    if is_servers(server, line, client.session(), way.now, text)? {
         return Ok(());
     }
     if way.has_passed(line, client, server, text)? || is_made(line, text)? {

@@ -9,12 +9,13 @@ use test_lines::Line;
 /// The most room that a line may lend.
 const ROOM_MAX: usize = 4096;
 
-/// The packet that the client sent last, and the moment. The client and the server stand beside it, each by itself: what holds
-/// both is dear to prove.
+/// The packet that the client sent last, the moment, and the client's clock, which tells that moment unless a line set it. The
+/// client and the server stand beside it, each by itself: what holds both is dear to prove.
 #[derive(Drop)]
 pub(crate) struct Way {
     pub(crate) up: Octets,
     pub(crate) now: Moment,
+    pub(crate) clock: Moment,
 }
 
 impl Way {
@@ -23,12 +24,13 @@ impl Way {
         Way {
             up: Octets::new(alloc),
             now,
+            clock: now,
         }
     }
 
     // The client's next packet: whether there is one.
     fn polls(&mut self, alloc: Global, client: &mut Client) -> Result<bool, Error> {
-        match client.poll_transmit(alloc, self.now)? {
+        match client.poll_transmit(alloc, self.clock)? {
             Some(packet) => {
                 self.up = packet;
                 Ok(true)
@@ -48,7 +50,7 @@ impl Way {
 
     // A packet that the server sent reaches the client.
     fn reaches(&self, alloc: Global, client: &mut Client, out: &Out) -> Result<(), Error> {
-        client.handle_packet(alloc, self.now, out.packet.as_slice())
+        client.handle_packet(alloc, self.clock, out.packet.as_slice())
     }
 
     // The server's next packet reaches the client: whether there is one.
@@ -113,7 +115,7 @@ impl Way {
 
     // The client's packet comes back to it.
     fn comes_back(&self, alloc: Global, client: &mut Client) -> Result<bool, Error> {
-        client.handle_packet(alloc, self.now, self.up.as_slice())?;
+        client.handle_packet(alloc, self.clock, self.up.as_slice())?;
         Ok(true)
     }
 
@@ -140,7 +142,7 @@ impl Way {
         Ok(self.goes_up(alloc, server)? == client.session())
     }
 
-    /// Something passes between both: whether the line told that.
+    /// Something passes between both, or the client's clock is set: whether the line told that.
     pub(crate) fn has_passed(
         &mut self,
         line: &mut Line<'_>,
@@ -148,6 +150,11 @@ impl Way {
         server: &mut Server,
         text: &mut Text,
     ) -> Result<bool, Fail> {
+        if line.verb == "clock" {
+            self.clock = Moment::new(line.number()?);
+            text.tell("set")?;
+            return Ok(true);
+        }
         match self.passes(line, client, server) {
             Some(Ok(true)) => text.tell("passed")?,
             Some(Ok(false)) => text.tell("nothing")?,
