@@ -259,9 +259,9 @@ fn what_fails_is_asked_once(_rt: HostRuntime) -> Result<(), Fail> {
     drop(net);
     let failed = fails(&mut link, &notes);
     drop(link);
+    failed?;
     same((act, connected), (Act::Ready, 0x124))?;
-    same(taken, (None, 0x3))?;
-    failed
+    same(taken, (None, 0x3))
 }
 
 /// A link hands on whole pieces, once each.
