@@ -44,7 +44,7 @@ impl Text {
     /// Adds a line of the draw of a server, as `{:?}` shows it.
     pub(crate) fn tell_draw(&mut self, server: &Server) -> Result<(), Fail> {
         let shown = format!(in self.alloc; "{server:?}")?;
-        let (_, behind) = shown.as_str().split_once(", words: ").ok_or("no draw")?;
+        let (_, behind) = shown.as_str().rsplit_once(", words: ").ok_or("no draw")?;
         let (words, _) = behind.split_once(", queue: ").ok_or("no queue")?;
         self.tell(words)
     }
