@@ -1,6 +1,6 @@
 //! The messages that an event of a session owes so far.
 
-ghost use Rattle.std.specs.Prelude.{◌≡◌, ◌≤◌, ◌<◌, ◌+◌, ◌%◌, ◌++◌, ◌∷◌, ◌==◌, [], length, map, slice_index_or, vec_len, vec_capacity, All, IfOk};
+ghost use Rattle.std.specs.Prelude.{◌≡◌, ◌≤◌, ◌<◌, ◌+◌, ◌++◌, ◌∷◌, ◌==◌, [], length, map, slice_index_or, vec_len, vec_capacity, All, IfOk};
 ghost use Rattle.std.specs.List.{list_any};
 ghost use Rattle.containers.specs.Lent.{message_of};
 ghost use Rattle.msg_ids.specs.Counters.{room};
@@ -56,7 +56,7 @@ impl Model for OutgoingMessages {
 
 impl OutgoingMessages {
     ghost use Rattle.std.specs.List.{AllByRecursion};
-    ghost use Rattle.server_output.specs.Dues.{CanGo, bodies_bytes, body_max, has_number};
+    ghost use Rattle.server_output.specs.Dues.{CanGo, bodies_bytes, has_number};
     ghost use Rattle.server_output.specs.Items.{CanBeSaid, IsContent, IsTimely, acks_bytes, bad_salt_bytes, destroyed_bytes, destroyed_item, ids_max, item_of, new_session_bytes, notice_bytes, pong_bytes, result_bytes, said_bytes, salts_bytes, salts_item, salts_max, states_bytes, wrong_salt};
 
     /// Nothing owed yet, and room for `places` messages with `bytes` bytes of bodies together.
@@ -277,29 +277,6 @@ impl OutgoingMessages {
         ensures left { self.new.room + result_bytes (length content.now) ≡ self.old.room }
     {
         self.owe(number, seq, &Outgoing::Result { call, content });
-    }
-
-    /// Owes a message that is spelt already, under its own number and seq: a kept reply. The body is whole words of 4
-    /// bytes, at most 1,044,480 bytes.
-    pub fn again_as_spelt(&mut self, number: u64, seq: u32, body: &[u8])
-        requires words { length body.now % 4 ≡ 0 }
-        requires short { length body.now ≤ body_max }
-        requires place { 0 < self.old.places }
-        requires bytes { length body.now ≤ self.old.room }
-        ensures owed { self.new.messages ≡ self.old.messages ++ record { number = number; seq = seq; body = body.now } ∷ [] }
-        ensures places { self.new.places + 1 ≡ self.old.places }
-        ensures taken { (self.new.places_taken ≡ self.old.places_taken) × (self.new.bytes_taken ≡ self.old.bytes_taken) }
-        ensures left { self.new.room + length body.now ≡ self.old.room }
-    {
-        let start = self.texts.as_slice().len();
-        self.texts.push_all(body);
-        self.rows.push_reserved(Row {
-            number,
-            seq,
-            start,
-            length: body.len(),
-        });
-        self.places -= 1;
     }
 
     /// Whether an owed message has this number.
