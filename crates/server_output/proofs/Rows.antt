@@ -5,8 +5,9 @@ use Rattle.std.proofs.lemmas.List.Sums.{sum_by-cons, sum_by_push}
 use Rattle.std.proofs.Math.Seq.{drop-append_seam, take-length}
 use Rattle.std.specs.List.{AllByRecursion, list_any}
 use Rattle.service_tl.specs.declared.lists.Message.{Message}
+use Rattle.envelope.specs.Packet.{body_max}
 use Rattle.server_output.specs.declared.owing.Row.{Row}
-use Rattle.server_output.specs.Dues.{IsRow, CanGo, bodies_bytes, message_at, body_max, has_number, rows_bytes}
+use Rattle.server_output.specs.Dues.{IsRow, CanGo, bodies_bytes, message_at, has_number, rows_bytes}
 
 -- what all members of a list are, and one more
 pub all-push : {X : Type 0} (P : X → Type 0) (xs : List X) (x : X) → AllByRecursion P xs → P x → AllByRecursion P (xs ++ x ∷ [])

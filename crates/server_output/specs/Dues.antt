@@ -2,6 +2,7 @@
 use Rattle.std.specs.Prelude.{◌≡◌, ◌≤◌, ℕ, ◌+◌, ◌%◌, Bool, ◌==◌, List, length, take, drop, sum_by}
 use Rattle.std.specs.List.{list_any}
 use Rattle.service_tl.specs.declared.lists.Message.{Message}
+use Rattle.envelope.specs.Packet.{body_max}
 use Rattle.server_output.specs.declared.owing.Row.{Row}
 
 -- the messages that are owed so far, in order; for how many more there is room, and for how many more bytes of bodies; and
@@ -12,10 +13,6 @@ pub record Dues : Type 0 where
   pub room : ℕ
   pub places_taken : ℕ
   pub bytes_taken : ℕ
-
--- the longest body that goes in a packet
-abbrev pub body_max : ℕ
-body_max = 1044480
 
 -- a message can go in a packet: its body is whole words of 4 bytes, and not too long
 pub record CanGo (message : Message) : Type 0 where

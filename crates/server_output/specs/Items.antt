@@ -4,7 +4,9 @@ use Rattle.std.specs.Prelude.{◌≡◌, ◌<◌, ◌≤◌, ◌^◌, ℕ, ◌+�
 use Rattle.tl_codec.specs.Spelling.{string_size}
 use Rattle.service_tl.specs.declared.item.Item.{Item}
 use Rattle.service_tl.specs.declared.item.Item.TheVariants.{RpcResult, FutureSalts, Pong, DestroySessionOk, DestroySessionNone, NewSessionCreated, MsgsAck, MsgsStateInfo, BadMsgNotification, BadServerSalt}
+use Rattle.service_tl.specs.Codes.{salt_code}
 use Rattle.salt_line.specs.declared.salt_line.SaltRow.{SaltRow}
+use Rattle.envelope.specs.Packet.{body_max}
 use Rattle.server_rules.specs.Rows.{future_salt_of}
 use Rattle.server_output.specs.declared.said.Outgoing.{Outgoing}
 use Rattle.server_output.specs.declared.said.Outgoing.TheVariants.{NewSession, Acks, Notice, BadSalt, Pinged, Salts, States, Ended, NoSession, Result}
@@ -55,7 +57,7 @@ salts_max = 64
 -- a content of whole words of 4 bytes, whose result can go in a packet
 pub record IsContent (content : List ℕ) : Type 0 where
   pub words : length content % 4 ≡ 0
-  pub short : result_bytes (length content) ≤ 1044480
+  pub short : result_bytes (length content) ≤ body_max
 
 -- the times of a row of salts are numbers of 32 bits
 abbrev pub IsTimely : SaltRow → Type 0
@@ -66,10 +68,6 @@ IsTimely row = (row.since < row.until) × (row.until < 2 ^ 32)
 abbrev pub destroyed_item : ℕ → Bool → Item
 destroyed_item session ok = if ok then DestroySessionOk session else DestroySessionNone session
 
--- the code of a wrong salt
-abbrev pub wrong_salt : ℕ
-wrong_salt = 48
-
 abbrev pub salts_item : ℕ → ℕ → List SaltRow → Item
 salts_item request now rows = FutureSalts request now (map future_salt_of rows)
 
@@ -79,7 +77,7 @@ abbrev pub item_of : Outgoing → Item
 item_of (NewSession first unique salt) = NewSessionCreated first unique salt
 item_of (Acks ids) = MsgsAck ids.now
 item_of (Notice number seq code) = BadMsgNotification number seq code
-item_of (BadSalt number seq salt) = BadServerSalt number seq wrong_salt salt
+item_of (BadSalt number seq salt) = BadServerSalt number seq salt_code salt
 item_of (Pinged message ping) = Pong message ping
 item_of (Salts request now rows) = salts_item request now rows.now
 item_of (States request info) = MsgsStateInfo request info.now

@@ -5,6 +5,7 @@ ghost use Rattle.std.specs.List.{list_any};
 ghost use Rattle.containers.specs.Lent.{message_of};
 ghost use Rattle.msg_ids.specs.Counters.{room};
 ghost use Rattle.service_tl.specs.declared.item.Item.TheVariants.{RpcResult, Pong, NewSessionCreated, MsgsAck, MsgsStateInfo, BadMsgNotification, BadServerSalt};
+ghost use Rattle.service_tl.specs.Codes.{salt_code};
 ghost use Rattle.service_tl.specs.Items.{spelling_of};
 ghost use Rattle.packing.specs.Numbering.{after_item, numbered};
 
@@ -57,7 +58,7 @@ impl Model for OutgoingMessages {
 impl OutgoingMessages {
     ghost use Rattle.std.specs.List.{AllByRecursion};
     ghost use Rattle.server_output.specs.Dues.{CanGo, bodies_bytes, has_number};
-    ghost use Rattle.server_output.specs.Items.{CanBeSaid, IsContent, IsTimely, acks_bytes, bad_salt_bytes, destroyed_bytes, destroyed_item, ids_max, item_of, new_session_bytes, notice_bytes, pong_bytes, result_bytes, said_bytes, salts_bytes, salts_item, salts_max, states_bytes, wrong_salt};
+    ghost use Rattle.server_output.specs.Items.{CanBeSaid, IsContent, IsTimely, acks_bytes, bad_salt_bytes, destroyed_bytes, destroyed_item, ids_max, item_of, new_session_bytes, notice_bytes, pong_bytes, result_bytes, said_bytes, salts_bytes, salts_item, salts_max, states_bytes};
 
     /// Nothing owed yet, and room for `places` messages with `bytes` bytes of bodies together.
     ///
@@ -152,11 +153,11 @@ impl OutgoingMessages {
         requires place { 0 < self.old.places }
         requires bytes { bad_salt_bytes ≤ self.old.room }
         requires numbers { 0 < room numbers.old }
-        ensures owed { self.new.messages ≡ self.old.messages ++ numbered now numbers.old (BadServerSalt number seq wrong_salt salt) ∷ [] }
+        ensures owed { self.new.messages ≡ self.old.messages ++ numbered now numbers.old (BadServerSalt number seq salt_code salt) ∷ [] }
         ensures places { self.new.places + 1 ≡ self.old.places }
         ensures taken { (self.new.places_taken ≡ self.old.places_taken) × (self.new.bytes_taken ≡ self.old.bytes_taken) }
         ensures left { self.new.room + bad_salt_bytes ≡ self.old.room }
-        ensures counted { numbers.new ≡ after_item now numbers.old (BadServerSalt number seq wrong_salt salt) }
+        ensures counted { numbers.new ≡ after_item now numbers.old (BadServerSalt number seq salt_code salt) }
         ensures room_lasts { room numbers.old ≤ room numbers.new + 1 }
     {
         self.say(now, numbers, &Outgoing::BadSalt { number, seq, salt });
