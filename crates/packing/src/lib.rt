@@ -9,5 +9,5 @@ mod numbering;
 mod packing;
 
 pub use containers::Part;
-pub use numbering::number;
+pub use numbering::{OTHER_ADDITION, RESPONSE_ADDITION, number};
 pub use packing::{front, pack, packed_size, packets};

@@ -8,10 +8,10 @@ use msg_ids::{Moment, Numbers};
 use service_tl::Item;
 
 /// What is added to the number of a response to a client's message.
-pub(crate) const RESPONSE_ADDITION: u64 = 1;
+pub const RESPONSE_ADDITION: u64 = 1;
 
 /// What is added to any other number of a server.
-pub(crate) const OTHER_ADDITION: u64 = 3;
+pub const OTHER_ADDITION: u64 = 3;
 
 /// The number and the seq that a server gives to this item at this moment: the sender's next number and 1 more for a
 /// response, 3 more for any other message. Takes no memory.

@@ -11,6 +11,7 @@ ghost use Rattle.server_output.specs.Items.{CanBeSaid, IsTimely, item_of, said_b
 
 use msg_ids::{Moment, Numbers};
 use octets::Buffer;
+use packing::{OTHER_ADDITION, RESPONSE_ADDITION};
 use salt_line::SaltRow;
 use service_tl::codes::WRONG_SALT;
 use service_tl::{
@@ -18,12 +19,6 @@ use service_tl::{
     MSGS_ACK, MSGS_STATE_INFO, NEW_SESSION_CREATED, PONG, RPC_RESULT,
 };
 use tl_codec::fill;
-
-/// What is added to the number of a response to a client's message.
-const RESPONSE_ADDITION: u64 = 1;
-
-/// What is added to any other number of a server.
-const OTHER_ADDITION: u64 = 3;
 
 /// An item that a server says in an event, lent.
 #[derive(Clone, Copy)]
