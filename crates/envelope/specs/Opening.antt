@@ -4,7 +4,7 @@ use Rattle.byteorder.specs.Endian.{little_number}
 use Rattle.auth_keys.specs.Keys.{IsGoodAt}
 use Rattle.auth_keys.specs.Rings.{entry_of}
 use Rattle.auth_keys.specs.declared.ring.RingKey.{RingKey}
-use Rattle.msg_key.specs.Keys.{substr}
+use Rattle.auth_keys.specs.Keys.{substr}
 use Rattle.envelope.specs.declared.parts.Dir.{Dir}
 use Rattle.envelope.specs.declared.parts.Envelope.{Envelope}
 use Rattle.envelope.specs.declared.refusal.Refusal.{Refusal}

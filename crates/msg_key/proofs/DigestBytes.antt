@@ -4,7 +4,8 @@ use Rattle.std.specs.Prelude.{slice_index}
 use Rattle.std.specs.Int.{w32, to_be_bytes}
 use Rattle.octets.specs.Bytes.{IsBytes, HasBytes}
 use Rattle.sha2.specs.Sha256.{sha256, digest_bytes}
-use Rattle.msg_key.specs.Keys.{substr, message_key, aes_key, aes_iv}
+use Rattle.auth_keys.specs.Keys.{substr}
+use Rattle.msg_key.specs.Keys.{message_key, aes_key, aes_iv}
 
 -- what the crate below promises of lists of bytes
 pub record CountsOfBytes : Type 0 where

@@ -1,8 +1,9 @@
 -- Message keys, and the key and initialisation vector of a packet
 -- (core.telegram.org/mtproto/description, "Message key" and "Defining AES Key and Initialization Vector").
 -- A key is the authorisation key, a list of 256 bytes.
-use Rattle.std.specs.Prelude.{ℕ, ◌+◌, ◌≡◌, ◌⊎◌, List, ◌++◌, take, drop}
+use Rattle.std.specs.Prelude.{ℕ, ◌+◌, ◌≡◌, ◌⊎◌, List, ◌++◌}
 use Rattle.sha2.specs.Sha256.{sha256}
+use Rattle.auth_keys.specs.Keys.{substr}
 
 -- x is 0 for messages from client to server and 8 for those from server to client
 abbrev pub x_up : ℕ
@@ -13,10 +14,6 @@ x_down = 8
 
 abbrev pub IsX : ℕ → Type 0
 IsX x = (x ≡ x_up) ⊎ (x ≡ x_down)
-
--- so many bytes of a list, from a place on
-abbrev pub substr : List ℕ → ℕ → ℕ → List ℕ
-substr bytes start count = take count (drop start bytes)
 
 -- msg_key_large = SHA256 (substr (auth_key, 88 + x, 32) + plaintext + random_padding)
 -- msg_key = substr (msg_key_large, 8, 16)

@@ -2,7 +2,8 @@
 
 ghost use Rattle.sha2.specs.Sha256.{sha256};
 ghost use Rattle.std.specs.Prelude.{◌≡◌, ◌++◌};
-ghost use Rattle.msg_key.specs.Keys.{IsX, substr, message_key, aes_key, aes_iv};
+ghost use Rattle.auth_keys.specs.Keys.{substr};
+ghost use Rattle.msg_key.specs.Keys.{IsX, message_key, aes_key, aes_iv};
 
 use aes_core::Key256;
 use auth_keys::AuthKey;
