@@ -15,11 +15,12 @@ use Rattle.server_rules.specs.Answer.{begun, name_in, session_for, with_place as
 use Rattle.server_session.specs.declared.session.SessionState.{SessionState}
 use Rattle.server_session.specs.Names.{name_kept}
 use Rattle.server_session.specs.SessionState.{IsAt, Stands, numbers_left}
+use Rattle.law_server.specs.Lives.{history_by}
 use Rattle.server_core.specs.Among.{Among, IsAlone, IsOrderlySpeaker, heard_among, heard_by}
 use Rattle.server_core.specs.Failures.{blocked_of}
 use Rattle.server_core.specs.Hearing.{IsHeard}
 use Rattle.server_core.specs.Others.{rest_of, with_place}
-use Rattle.server_core.specs.Packets.{AreBeside, HasJudged, history_of, judged_of}
+use Rattle.server_core.specs.Packets.{AreBeside, HasJudged, judged_of}
 use Rattle.server_core.specs.Server.{CanSpeak, IsSound}
 use Rattle.server_core.specs.Sessions.{AreKept, is_kept_as, without_kept}
 use Rattle.server_core.proofs.HearLemmas.{others-apart}
@@ -30,7 +31,7 @@ use Rattle.server_core.proofs.Settled.{blocked-left}
 -- a session that was heard has judged
 pub judged-so : {S : Type 0} (setting : Setting S) (envelope : Envelope) (kept : List SessionState) (standing after : SessionState) (queue later : Queue) (bound bindings : List Binding) (draw : S)
     (judged : List Judgement) (among : Among S) → IsHeard setting.now kept standing queue bound draw among
-    → Stands setting.now after (record among.speaker.session { history = history_of setting envelope among.speaker.session })
+    → Stands setting.now after (record among.speaker.session { history = history_by setting envelope among.speaker.session })
     → later ≡ queue → bindings ≡ bound → judged ≡ judged_of setting envelope among.speaker.session → IsAlone (name_in envelope) among
     → IsOrderlySpeaker (name_in envelope) among.speaker → HasJudged setting envelope kept after later bindings draw judged among
 judged-so setting envelope kept standing after queue later bound bindings draw judged among heard stands same_jobs same_bindings is alone order =

@@ -15,7 +15,8 @@ use Rattle.server_rules.specs.Speaking.{answers_in_place, msg_wait_failed, msg_w
 use Rattle.server_rules.specs.Waiting.{Outlook, Over, InVain, GoesOn, after_failures, after_timeouts, all_given_up, first_given_up, given_up, gives_up, outlook, outlook_by, told as told_of}
 use Rattle.server_rules.specs.Answer.{ticks}
 use Rattle.law_server.specs.Order.{jobs_of}
-use Rattle.server_core.specs.Ticking.{is_entry_of, is_owed_by, only}
+use Rattle.law_server.specs.Lives.{is_entry_of}
+use Rattle.server_core.specs.Ticking.{is_owed_by, only}
 use Rattle.server_core.proofs.Names.{apart-names, find-first, find-other, found-named, named, names-same, none-some, same-names, some-same}
 use Rattle.server_core.proofs.Quiet.{HasNone, first_so, none-given, none-out, ticks-none}
 use Rattle.server_core.proofs.Running.{IsUnfailed}

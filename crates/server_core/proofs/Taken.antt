@@ -29,11 +29,12 @@ use Rattle.server_dispatch.specs.declared.turn.Turn.{Turn}
 use Rattle.server_dispatch.specs.Speaks.{Speaks}
 use Rattle.server_session.specs.declared.session.SessionState.{SessionState}
 use Rattle.server_session.specs.Names.{name_kept}
+use Rattle.law_server.specs.Lives.{history_by, way_of}
 use Rattle.server_core.specs.Among.{Among, IsAlone, IsOrderlySpeaker, destroys_another, left_where, remembers_among, row_among, settles_among, speaks_among, takes_among}
 use Rattle.server_core.specs.Failures.{blocked_of}
 use Rattle.server_core.specs.One.{fails_all, fails_first, given_up_by}
 use Rattle.server_core.specs.Others.{AreLeft, with_last_where}
-use Rattle.server_core.specs.Packets.{AreBeside, HasJudged, bodies_of, history_of, judged_of, way_of}
+use Rattle.server_core.specs.Packets.{AreBeside, HasJudged, bodies_of, judged_of}
 use Rattle.server_core.specs.Server.{CanSpeak, IsSound}
 use Rattle.server_core.specs.SettlingAll.{AreDue, AreSettling}
 use Rattle.server_core.proofs.Among.{OwesForItself, opened-alone}
@@ -77,13 +78,13 @@ PacketsTell =
 pub opened-settling : {S : Type 0} → KeepsOrder S → PacketsOpen → PacketsTell → (setting : Setting S) (envelope : Envelope) (limit : ℕ) (judged : List Judgement) (among : Among S)
     → IsAlone (name_in envelope) among → IsOrderlySpeaker (name_in envelope) among.speaker → judged ≡ judged_of setting envelope among.speaker.session
     → blocked_of (name_in envelope) among.speaker.jobs + length judged ≤ limit
-    → AreSettling (name_in envelope) (history_of setting envelope among.speaker.session) limit judged
-    (speaks_among (opens setting (history_of setting envelope among.speaker.session) judged) among)
+    → AreSettling (name_in envelope) (history_by setting envelope among.speaker.session) limit judged
+    (speaks_among (opens setting (history_by setting envelope among.speaker.session) judged) among)
 opened-settling {S} keeps open_so tells setting envelope limit judged among alone order is few =
     let name = name_in envelope in
     let session = among.speaker.session in
     let way = way_of setting envelope session in
-    let history = history_of setting envelope session in
+    let history = history_by setting envelope session in
     let message = message_in envelope in
     let T : List Judgement → Type 0 = λ judged. All (λ judgement. IsTold judgement.number judgement.verdict history) judged in
     let M : List Judgement → Type 0 = λ judged. IsMidway (opens_of judged) history session.replies session.counters.last (jobs_of name among.speaker.jobs) in
@@ -100,7 +101,7 @@ opened-settling {S} keeps open_so tells setting envelope limit judged among alon
 -- as it begins to owe
 pub begins-taking : {S : Type 0} (setting : Setting S) (envelope : Envelope) (kept : List SessionState) (standing : SessionState) (turn : Turn) (queue : Queue) (bound : List Binding) (draw : S)
     (judged : List Judgement) (among : Among S) → HasJudged setting envelope kept standing queue bound draw judged among → turn.owing.messages ≡ [] → turn.entries.entries ≡ []
-    → Speaks setting.now standing turn queue bound draw (remembers_among (history_of setting envelope among.speaker.session) among).speaker
+    → Speaks setting.now standing turn queue bound draw (remembers_among (history_by setting envelope among.speaker.session) among).speaker
 begins-taking setting envelope kept standing turn queue bound draw judged among has none nothing =
     let name = name_of among.speaker.session in
     record {
@@ -164,7 +165,7 @@ pub taken-sent : {S : Type 0} → OwesForItself S → GivesUpFor S → (setting 
 taken-sent {S} says gives setting envelope among =
     let session = among.speaker.session in
     let judged = judged_of setting envelope session in
-    let history = history_of setting envelope session in
+    let history = history_by setting envelope session in
     all_settled-sent says gives setting (zip judged (bodies_of setting envelope session)) (speaks_among (opens setting history judged) among)
     ∙ opened-sent setting history judged among.speaker
 

@@ -5,16 +5,15 @@ use Rattle.envelope.specs.declared.parts.Dir.TheVariants.{Up}
 use Rattle.envelope.specs.declared.parts.Envelope.{Envelope as Sealed}
 use Rattle.envelope.specs.Opening.{IsRefused, Opens}
 use Rattle.envelope.specs.Packet.{Lock}
-use Rattle.id_window.specs.History.{History}
 use Rattle.inbox.specs.declared.judged.Judgement.{Judgement}
 use Rattle.inbox.specs.declared.outer.Outer.{Outer}
-use Rattle.inbox.specs.Judging.{judgements, session_after}
-use Rattle.inbox.specs.Refusals.{Way, InEnvelope}
+use Rattle.inbox.specs.Judging.{judgements}
 use Rattle.server_output.specs.Outs.{AreSent}
 use Rattle.waits.specs.Jobs.{Queue}
 use Rattle.server_rules.specs.Answer.{message_in, messages_judged, name_in}
 use Rattle.server_rules.specs.Event.{Envelope, Setting}
 use Rattle.server_rules.specs.Server.{Binding, Name, Session, remembered, sessions_max}
+use Rattle.law_server.specs.Lives.{history_by, way_of}
 use Rattle.server_session.specs.declared.session.SessionState.{SessionState}
 use Rattle.server_session.specs.Names.{name_kept}
 use Rattle.server_session.specs.SessionState.{Stands}
@@ -74,14 +73,8 @@ brought key session outer =
 
 -- ---- what a session that was heard judges
 
-abbrev pub way_of : {S : Type 0} → Setting S → Envelope → Session → Way
-way_of setting envelope session = InEnvelope setting.now session.salts envelope.salt
-
 abbrev pub judged_of : {S : Type 0} → Setting S → Envelope → Session → List Judgement
 judged_of setting envelope session = judgements (way_of setting envelope session) (remembered session) (message_in envelope)
-
-abbrev pub history_of : {S : Type 0} → Setting S → Envelope → Session → History
-history_of setting envelope session = (session_after (way_of setting envelope session) (remembered session) (message_in envelope)).history
 
 -- the bodies of the messages that it judges
 abbrev pub bodies_of : {S : Type 0} → Setting S → Envelope → Session → List (List ℕ)
@@ -90,7 +83,7 @@ bodies_of setting envelope session = map (λ one. one.body) (messages_judged (wa
 -- What is kept is that of a session among the others that was heard and remembers what it judged, and these are its
 -- judgements.
 pub record HasJudged {S : Type 0} (setting : Setting S) (envelope : Envelope) (kept : List SessionState) (standing : SessionState) (queue : Queue) (bound : List Binding) (draw : S) (judged : List Judgement) (among : Among S) : Type 0 where
-  pub heard : IsHeard setting.now kept standing queue bound draw (remembers_among (history_of setting envelope among.speaker.session) among)
+  pub heard : IsHeard setting.now kept standing queue bound draw (remembers_among (history_by setting envelope among.speaker.session) among)
   pub are : judged ≡ judged_of setting envelope among.speaker.session
   pub alone : IsAlone (name_in envelope) among
   pub order : IsOrderlySpeaker (name_in envelope) among.speaker

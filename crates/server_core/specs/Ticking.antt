@@ -1,17 +1,14 @@
 -- A tick, in which several sessions speak.
-use Rattle.std.specs.Prelude.{◌==◌, ◌&&◌, Bool, true, false, List, [], ◌∷◌, ◌++◌}
+use Rattle.std.specs.Prelude.{Bool, true, false, List, [], ◌∷◌, ◌++◌}
 use Rattle.std.specs.List.{filter, list_any}
 use Rattle.server_rules.specs.Server.{Name, is_named, is_same}
-use Rattle.server_rules.specs.Event.{Entry, Owed, State}
+use Rattle.server_rules.specs.Event.{Owed, State}
+use Rattle.law_server.specs.Lives.{is_entry_of}
 use Rattle.law_server.specs.Order.{jobs_of}
 
 -- the session of this name owes it
 abbrev pub is_owed_by : Name → Owed → Bool
 is_owed_by name one = is_same name one.name
-
--- it is an entry of the session of this name
-abbrev pub is_entry_of : Name → Entry → Bool
-is_entry_of name entry = (entry.key == name.key) && (entry.session == name.session)
 
 -- an event so far as it is of the session of this name alone: that session, its jobs, what it owes and its entries
 abbrev pub only : {S : Type 0} → Name → State S → State S

@@ -13,8 +13,9 @@ use Rattle.server_rules.specs.Event.{Setting}
 use Rattle.server_rules.specs.Server.{Session}
 use Rattle.server_session.specs.Names.{name_kept}
 use Rattle.server_session.specs.Says.{setting_of}
+use Rattle.law_server.specs.Lives.{history_by}
 use Rattle.server_core.specs.Among.{Among, remembers_among, speaks_among, takes_among}
-use Rattle.server_core.specs.Packets.{bodies_of, history_of, judged_of}
+use Rattle.server_core.specs.Packets.{bodies_of, judged_of}
 use Rattle.server_core.specs.Room.{turn_in}
 use Rattle.server_core.specs.Settling.{SpeaksAmong}
 use Rattle.server_core.specs.SettlingAll.{AreDue, all_settled, are_numbered, calls_of}
@@ -97,7 +98,7 @@ returns-clause-ends g c = λ keys envelope among of has fits.
     let room = c.args.room in
     let name = name_in envelope in
     let session : Session = among.speaker.session in
-    let history : History = history_of setting envelope session in
+    let history : History = history_by setting envelope session in
     let bodies : List (List ℕ) = bodies_of setting envelope session in
     let speech = c.speech_keeps_order.ensures in
     let rows = c.rows_keep_order.ensures in

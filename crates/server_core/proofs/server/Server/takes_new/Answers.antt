@@ -17,10 +17,11 @@ use Rattle.law_server.specs.Order.{jobs_of}
 use Rattle.server_session.specs.declared.session.SessionState.{SessionState}
 use Rattle.server_session.specs.Names.{name_kept}
 use Rattle.server_session.specs.Says.{setting_of}
+use Rattle.law_server.specs.Lives.{way_of}
 use Rattle.server_core.specs.Among.{Among, ended_among, heard_among, takes_among}
 use Rattle.server_core.specs.Effects.{Gives}
 use Rattle.server_core.specs.Failures.{blocked_of}
-use Rattle.server_core.specs.Packets.{Fits, bodies_of, brought, judged_of, kept_so, way_of}
+use Rattle.server_core.specs.Packets.{Fits, bodies_of, brought, judged_of, kept_so}
 use Rattle.server_core.specs.Room.{CanTake}
 use Rattle.server_core.specs.Server.{CanSpeak, Kept, Stands}
 use Rattle.server_core.specs.Sessions.{is_kept_as}
