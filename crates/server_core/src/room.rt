@@ -24,7 +24,7 @@ use crate::speech::Speech;
 use inbox::{Judged, Outer};
 use msg_ids::Moment;
 use octets::Memory;
-use server_dispatch::{Bindings, Due, Entries, dues_of};
+use server_dispatch::{Bindings, Due, Entries, NOTICE_BYTES, dues_of};
 use server_session::laws::called_replies_are_few;
 use server_session::{Called, SessionState};
 use std::alloc::Global;
@@ -38,9 +38,6 @@ const NUMBER_BYTES: usize = 8;
 
 /// What each short answer takes at most, in bytes.
 pub(crate) const SHORT_RESULT_BYTES: usize = 48;
-
-/// The bytes of the longest notice.
-const NOTICE_BYTES: usize = 28;
 
 /// The room for all that a session says and records by a packet, and what its messages need.
 #[derive(Drop)]

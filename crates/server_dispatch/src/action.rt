@@ -32,7 +32,7 @@ const SALT_ROW_BYTES: usize = 16;
 const PONG_BYTES: usize = 20;
 
 /// How many bytes the longer one of the two notices has.
-const NOTICE_BYTES: usize = 28;
+pub const NOTICE_BYTES: usize = 28;
 
 /// How many bytes an answer to `destroy_session` has.
 const DESTROYED_BYTES: usize = 12;

@@ -20,7 +20,7 @@ mod short;
 mod turn;
 mod waiting;
 
-pub use action::{Action, Answering, Asked, Telling};
+pub use action::{Action, Answering, Asked, NOTICE_BYTES, Telling};
 pub use bindings::Bindings;
 pub use calls::{Awaited, CallDue};
 pub use dues::{Due, dues_of};
