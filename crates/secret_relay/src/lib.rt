@@ -13,7 +13,6 @@ mod look;
 mod passing;
 mod phase;
 mod relay;
-mod start;
 
 pub use fault::RelayFault;
 pub use relay::Relay;

@@ -4,13 +4,12 @@ ghost use Rattle.std.specs.Prelude.{◌≡◌, ◌≤◌, drop, length};
 
 use crate::fault::RelayFault;
 use crate::passing::{pass_on, room_for};
-use crate::start::form_of_tag;
 use cipher_modes::Ctr;
 use obfus::Pair;
 use octets::{Buffer, Memory, Octets};
 use std::alloc::Global;
 use std::{fmt, mem};
-use transport::Form;
+use transport::{Form, form_of_tag};
 
 /// A connection behind its start: the form inside, where both key streams stand, and what is left of either side's stream
 /// behind its whole packets.

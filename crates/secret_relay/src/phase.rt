@@ -9,12 +9,11 @@ ghost use Rattle.secret_relay.specs.Standing.{Adds, KeepsLink, OnEnd};
 use crate::fault::RelayFault;
 use crate::first::First;
 use crate::link::Link;
-use crate::start::start_of;
 use cipher_modes::laws::ctr_pieces_equal_the_whole;
 use obfus::{Init, ObfusFault, START_BYTES};
 use octets::Octets;
 use std::alloc::Global;
-use transport::Form;
+use transport::{Form, start_of};
 
 /// How far a relay came.
 #[derive(Debug, Drop)]

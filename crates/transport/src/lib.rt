@@ -15,4 +15,5 @@ pub use form::Form;
 pub use framed::Framed;
 pub use framing::{FrameFault, Next};
 pub use raw::Raw;
+pub use start::{form_of_tag, start_of};
 pub use wire::{RawStep, Wire};

@@ -35,9 +35,10 @@ fn begins_full(bytes: &[u8]) -> bool
     bytes[bytes.len().min(4)..].starts_with(b"\0\0\0\0")
 }
 
-// The form that a tag names.
-fn form_of_tag(tag: Tag) -> Form
-    ensures { result ≡ form_of_tag tag }
+/// The form that a tag names.
+pub fn form_of_tag(tag: Tag) -> Form
+    ensures named { result ≡ form_of_tag tag }
+    ensures not_full { result ≢ Full }
 {
     match tag {
         Tag::Abridged => Form::Abridged,
@@ -60,7 +61,7 @@ pub(crate) fn tag_of(form: Form) -> Tag
 }
 
 /// The bytes of a form's start, where it isn't obfuscated.
-pub(crate) fn start_of(form: Form) -> &'static [u8]
+pub fn start_of(form: Form) -> &'static [u8]
     ensures { result.now ≡ start_of form }
 {
     match form {

@@ -19,7 +19,7 @@ returns-in-Ok c =
             (sym c.starts_with.ensures.value ∙ c.if-starts_with.false) (sym c.starts_with-2.ensures.value ∙ c.if-starts_with-2.false)
             (sym c.starts_with-3.ensures.value ∙ c.if-starts_with-3.false) (sym c.begins_full.ensures ∙ c.if-begins_full.false);
         reads = subst (λ (l : List ℕ). Reads None l c.in-Ok.pair) c.copy_from_slice.ensures.after c.in-Ok.ensures.pair;
-        opens = ap (λ (f : Form). let o : Opening = record { form = f; up = Some c.in-Ok.pair.up; down = Some c.in-Ok.pair.down } in o) c.form_of_tag.ensures;
+        opens = ap (λ (f : Form). let o : Opening = record { form = f; up = Some c.in-Ok.pair.up; down = Some c.in-Ok.pair.down } in o) c.form_of_tag.ensures.named;
       }),
     )
 
