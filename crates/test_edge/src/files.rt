@@ -10,7 +10,7 @@ use octets::Octets;
 use std::alloc::Global;
 use std::fs;
 use std::test::Fail;
-use test_asserts::{holds, same};
+use test_asserts::{holds, same, shown, shows};
 
 /// What a journal does: it adds bytes behind the end, and makes sure of them.
 fn add<K: Disk>(disk: &mut K, bytes: &[u8]) -> Act
@@ -62,6 +62,27 @@ fn files_in_memory(rt: HostRuntime) -> Result<(), Fail> {
         ),
     )?;
     holds(loses(&disk, alloc, 1, b"ab")? && loses(&disk, alloc, 2, b"abcd")?)?;
+    Ok(())
+}
+
+#[test]
+fn files_in_memory_show_no_byte(rt: HostRuntime) -> Result<(), Fail> {
+    let alloc = rt.alloc();
+    let mut disk = MemDisk::new(alloc, b"kk", &[], 8, 8)?;
+    same(add(&mut disk, b"kkk"), Act::Ready)?;
+    shows(alloc, &disk, "MemDisk { len: 5, .. }")?;
+    shows(
+        alloc,
+        &disk.acts().first(),
+        "Some(Write { at: 2, count: 3 })",
+    )?;
+    shows(alloc, &disk.acts().last(), "Some(Sync { len: 5, .. })")?;
+    let name = Octets::copy(alloc, b"")?;
+    let file = MemFile {
+        name,
+        disk: Some(disk),
+    };
+    holds(!shown(alloc, &file)?.as_str().contains("107"))?;
     Ok(())
 }
 
