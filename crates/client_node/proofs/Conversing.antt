@@ -19,7 +19,7 @@ use Rattle.client_node.specs.Ends.{batch_by}
 use Rattle.client_node.specs.Runs.{Conversed, Gave, HasOpened, LostSoFar, Talked, Tried}
 use Rattle.client_node.specs.Standing.{StandsAs, StandsFor, phase_of}
 use Rattle.client_node.specs.Talks.{Began, Close, Connection, FailsLast, Heard, PassedFront, Place, Refused, Rules, Said, Shows, ShowsClose, Stopped, TurnsDone, Unread, Unstarted, begun, drawn, rules_of}
-use Rattle.client_node.specs.Trace.{AreNoted, Attempt, ClientTrace, IsNoted, Made, NoLink, UndecidedIn, after_all, all_moments}
+use Rattle.client_node.specs.Trace.{AreNoted, Attempt, ClientTrace, IsNoted, Made, UndecidedIn, after_all, all_moments}
 use Rattle.client_node.specs.Writes.{Seen, Writes, WroteFront, seen}
 use Rattle.client_node.specs.declared.end.End.{End}
 use Rattle.client_node.specs.declared.end.End.TheVariants as ends
@@ -208,28 +208,6 @@ tried rules plan course first between last place fresh told few faults given giv
       stands = conversed.stands;
       noted = noted rules plan course conversed.connection first between last place fresh told few faults opened at is none conversed.shows closed;
       gave = conversed.gave;
-    }
-
--- an attempt that failed
-unlinked : {S : Type 0} (rules : Rules S) (plan : Plan) (course : Course S) (first last : Option (List NetCall))
-    → IfSome last (λ after. IsSomeAnd first (λ before. after ≡ before ++ Connect plan.port Failed ∷ []))
-    → IfSome last (λ after. IsSomeAnd first (λ before. (call : NetCall) × (after ≡ before ++ call ∷ []) × IsNoted rules plan course NoLink call))
-unlinked rules plan course first None failed = tt
-unlinked rules plan course None (Some last) failed = absurd failed
-unlinked rules plan course (Some first) (Some last) failed = (Connect plan.port Failed, failed, refl)
-
-pub not_made : {S : Type 0} (rules : Rules S) (plan : Plan) (course : Course S) (first last : Option (List NetCall)) (given : Option (List ℕ)) (kept : Holder) (draw : S)
-    → StandsAs kept draw course
-    → IfSome last (λ after. IsSomeAnd first (λ before. after ≡ before ++ Connect plan.port Failed ∷ []))
-    → Tried rules plan course first given ends.Lost kept draw last given
-not_made rules plan course first last given kept draw stands failed =
-    record {
-      attempt = NoLink;
-      is = tt;
-      ends_so = refl;
-      stands = stands;
-      noted = unlinked rules plan course first last failed;
-      gave = gave_none given;
     }
 
 -- ---- all attempts

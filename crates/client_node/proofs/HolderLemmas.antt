@@ -1,5 +1,5 @@
 -- What the calls of a client in one state make of its course.
-use Rattle.std.proofs.Common.{◌≡◌, ℕ, max, if◌then◌else◌, true, false, Option, Some, None, List, Result, Ok, Err, refl, ap, sym, subst, ◌∙◌}
+use Rattle.std.proofs.Common.{◌≡◌, ℕ, max, true, false, Option, Some, None, List, Result, Ok, Err, refl, ap, sym, subst, ◌∙◌}
 use Rattle.std.proofs.lemmas.Bool.{true≢false}
 use Rattle.auth_keys.specs.declared.ring.RingKey.{RingKey}
 use Rattle.draws.specs.Draws.{draw_after, word_after}
@@ -8,39 +8,21 @@ use Rattle.envelope.specs.declared.parts.Dir.TheVariants.{Down}
 use Rattle.envelope.specs.Opening.{Opens}
 use Rattle.envelope.specs.Packet.{Lock}
 use Rattle.octets.specs.declared.memory.Memory.{Memory}
-use Rattle.client_rules.specs.Asking.{attached}
 use Rattle.client_rules.specs.Client.{Client, at_moment}
 use Rattle.client_rules.specs.Flush.{flush}
 use Rattle.client_rules.specs.Events.{renewed, takes}
 use Rattle.client_rules.specs.Taking.{take}
 use Rattle.client_rules.specs.Sending.{Setting}
 use Rattle.client_core.specs.Flushed.{Flushes, Leaves, TellsFlush}
-use Rattle.client_core.specs.Holding.{Became, IsInState, Opening, Open, Ended, kept_of, phase_of, unless_ended}
+use Rattle.client_core.specs.Holding.{Became, IsInState, Opening, Open, Ended, kept_of, phase_of}
 use Rattle.client_core.specs.Keys.{HasKeys as HasKeysOf, Keys, keys_in}
 use Rattle.client_core.specs.Kept.{Contents, Stands}
 use Rattle.client_core.specs.declared.flush.Flush.{Flush}
 use Rattle.client_core.specs.declared.flush.Flush.TheVariants as told
 use Rattle.client_core.specs.declared.holder.Holder.{Holder}
 use Rattle.client_core.specs.declared.holder.Holder.TheVariants as holder
-use Rattle.client_node.specs.Course.{Course, Reading, attached_in, flushed_in, heard_in, hears, must_renew, phase_after, renews}
+use Rattle.client_node.specs.Course.{Course, flushed_in, heard_in, must_renew, renews}
 use Rattle.client_node.specs.Standing.{FlushedAs, HasKeys, HeardAs, IsOpened, KeepsKeys, StandsAs, StandsFor}
-
--- ---- whether it ended
-
--- what is kept tells it of each client that it stands for
-pub living_of : (kept : Contents) (whole : Client) → Stands kept whole → kept.rest.has_ended ≡ whole.has_ended
-living_of kept whole stands = ap (λ (client : Client). client.has_ended) stands.rest
-
--- ---- a connection
-
-pub attached_so : (held left : Holder) (whole : Client) → IsInState held → StandsFor held whole
-    → StandsFor left (unless_ended attached whole) → StandsFor left (attached_in (phase_of held) whole)
-attached_so (holder.Opening kept) left whole state stands after =
-    subst (λ ended. StandsFor left (if ended then whole else attached whole)) (sym (living_of kept whole stands) ∙ state.1) after
-attached_so (holder.Open kept) left whole state stands after =
-    subst (λ ended. StandsFor left (if ended then whole else attached whole)) (sym (living_of kept whole stands) ∙ state.1) after
-attached_so (holder.Ended kept) left whole state stands after =
-    subst (λ ended. StandsFor left (if ended then whole else attached whole)) (sym (living_of kept whole stands) ∙ state) after
 
 -- ---- a flush
 
@@ -99,16 +81,6 @@ goes_on step kept left draw drawn course stands must renewal after =
     let client : Stands left (renewed (word_after step 0 course.draw) course.client) =
     subst (λ before. Stands left (renewed (word_after step 0 before) course.client)) stands.draw (renewal course.client stands.client) in
     rw same (record { phase = refl; client = client; draw = after ∙ ap (λ before. draw_after step 1 before) stands.draw })
-
--- ---- a packet
-
--- what was heard, by the course
-pub heard_so : {S : Type 0} (reading : Reading) (now : ℕ) (course : Course S) (packet : List ℕ) (kept : Holder) (draw : S)
-    → draw ≡ course.draw
-    → (phase_of kept ≡ phase_after course.phase (heard_in course.phase now (reading (max course.client.now now) packet) course.client))
-    → StandsFor kept (heard_in course.phase now (reading (max course.client.now now) packet) course.client)
-    → StandsAs kept draw (hears reading now course packet)
-heard_so reading now course packet kept draw same phase client = record { phase = phase; client = client; draw = same }
 
 -- ---- keys
 

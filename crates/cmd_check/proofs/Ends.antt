@@ -139,22 +139,6 @@ module _ (found : (text : List ℕ) (one other : Checked) → IsFoundIn text one
 -- ---- there is none
 
 module _ {S O : Type 0} (input : Outside S) (out : Outside O) (untouched : IsUntouched out) where
-  pub unread-run : HadFault input → CheckRun input out status.ReadFault
-  unread-run fault = record {
-    ends = inr (inl refl);
-    read = λ e. absurd (elim e [ inl f ↦ cc | inr f ↦ cc ]);
-    holds = λ e. absurd cc;
-    holding = if-told (input.told input.before) _ (λ text h. inr (inl refl));
-    broken = λ e. absurd cc;
-    breaking = if-told (input.told input.before) _ (λ text clause line b. inr (inl refl));
-    refused = λ e. absurd cc;
-    refusals = if-told (input.told input.before) _ (λ text why r. inr (inl refl));
-    read_fault = λ e. fault;
-    write_fault = λ e. absurd cc;
-    front = λ e. absurd cc;
-    nothing = λ e. untouched;
-  }
-
   pub out-of-memory-run : CheckRun input out status.Memory
   out-of-memory-run = record {
     ends = inr (inr (inr refl));

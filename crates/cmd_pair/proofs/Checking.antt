@@ -34,10 +34,6 @@ halts-at-script input text read (Err (halts.Refused answer)) h = inr (h.0, text,
 halts-at-script input text read (Err halts.ReadFault) h = absurd h
 halts-at-script input text read (Err halts.Memory) h = tt
 
--- the key file, by its name
-pub asked-by : {F : Type 0} (name own : List ℕ) (files : Files F) → name ≡ own → AskedFor name files → AskedFor own files
-asked-by name own files is asked = subst (λ (some : List ℕ). AskedFor some files) is asked
-
 pub gave-by : {F : Type 0} (name own : List ℕ) (files : Files F) (text : List ℕ) → name ≡ own → AskedFor name files → HasFile (files.told files.before) name text
     → files.faults files.after ≡ files.faults files.before → Gave own files text
 gave-by name own files text is asked named same = subst (λ (some : List ℕ). Gave some files text) is (record { asked = asked; named = named; no_fault = same })

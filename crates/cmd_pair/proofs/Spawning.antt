@@ -60,13 +60,6 @@ module _ (words : List (List ℕ)) where
   front-start answer made (inl h) = front-by (asks words) (ReadsLine ∷ Waits ∷ []) made (call.Start words answer ∷ []) h refl
   front-start answer made (inr h) = front-by (asks words) (asks words) made [] h refl
 
-  -- the line wasn't read
-  pub front-line : (line : Line) (one other : List KidCall) → one ≡ call.Start words Ready ∷ [] → MayBe (call.Line line) other → IsFrontOf (asks words) (one ++ other)
-  front-line line one other start (inl h) =
-      front-by (asks words) (Waits ∷ []) (one ++ other) (call.Start words Ready ∷ call.Line line ∷ []) (ap (λ (calls : List KidCall). calls ++ other) start ∙ ap (λ (calls : List KidCall). call.Start words Ready ∷ calls) h) refl
-  front-line line one other start (inr h) =
-      front-by (asks words) (ReadsLine ∷ Waits ∷ []) (one ++ other) (call.Start words Ready ∷ []) (ap (λ (calls : List KidCall). calls ++ other) start ∙ ap (λ (calls : List KidCall). call.Start words Ready ∷ calls) h) refl
-
   -- it was
   pub begun : (line : Line) (one other : List KidCall) → GoesOn line → one ≡ call.Start words Ready ∷ [] → other ≡ call.Line line ∷ [] → WasBegun words (one ++ other)
   begun line one other goes start read = record {
@@ -117,14 +110,6 @@ module _ {P : Type 0} (calls : P → Option (List KidCall)) (counts : P → ℕ)
         made-both (λ made. made ≡ call.Start words Ready ∷ []) (λ made. made ≡ call.Line line ∷ []) (WasBegun words) (calls first) (calls middle) (calls last)
             (λ one other was is. begun words line one other goes was is) (made-one (call.Start words Ready) (calls first) (calls middle) start) (made-one (call.Line line) (calls middle) (calls last) read),
         still ∙ same,
-      )
-
-      -- it was started, and its line wasn't
-      pub unread : NotesMaybe middle last (call.Line line) → counts last ≡ one_more (counts middle) → StopsBy words (kids_of calls counts first last) faults.Failed
-      unread noted counted = (
-        made-both (λ made. made ≡ call.Start words Ready ∷ []) (MayBe (call.Line line)) (IsFrontOf (asks words)) (calls first) (calls middle) (calls last)
-            (λ one other was may. front-line words line one other was may) (made-one (call.Start words Ready) (calls first) (calls middle) start) (made-may (call.Line line) (calls middle) (calls last) noted),
-        counted ∙ ap one_more same,
       )
 
   -- it was waited for

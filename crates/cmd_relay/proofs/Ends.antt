@@ -142,20 +142,6 @@ module _ (form : Form) (secret : List ℕ) where
 -- ---- there is no answer
 
 module _ {S O : Type 0} (form : Form) (secret : List ℕ) (input : Outside S) (out : Outside O) (untouched : IsUntouched out) where
-  pub unread-run : HadFault input → RelayRun form secret input out status.ReadFault
-  unread-run fault = record {
-    ends = inr (inl refl);
-    read = λ e. absurd cc;
-    relayed = λ e. absurd cc;
-    completeness = if-told (input.told input.before) _ (λ text other h. inr (inl refl));
-    refused = λ e. absurd cc;
-    refusals = if-told (input.told input.before) _ (λ text why h. inr (inl refl));
-    read_fault = λ e. fault;
-    write_fault = λ e. absurd cc;
-    front = λ e. absurd cc;
-    nothing = λ e. untouched;
-  }
-
   pub out-of-memory-run : RelayRun form secret input out status.Memory
   out-of-memory-run = record {
     ends = inr (inr (inr refl));

@@ -9,7 +9,7 @@ use Rattle.statuses.specs.declared.status.Status.TheVariants as status
 use Rattle.transport.specs.declared.form.Form.{Form}
 use Rattle.secret_relay.specs.Kept.{Kept}
 use Rattle.secret_relay.specs.Standing.{Adds, OnEnd, Stands}
-use Rattle.secret_relay.specs.Stories.{Story, GoesOn, Relayed, UpEnds, DownEnds, nothing, with_up, with_down}
+use Rattle.secret_relay.specs.Stories.{Story, Relayed, DownEnds, nothing, with_up, with_down}
 use Rattle.secret_relay.specs.declared.fault.RelayFault.{RelayFault}
 use Rattle.secret_relay.specs.declared.fault.RelayFault.TheVariants as faults
 use Rattle.cmd_relay.specs.Captures.{line_of}
@@ -44,39 +44,7 @@ module _ (written : Written) (old new : Kept) (same : (new.form ≡ old.form) ×
       }
   up_taken (Err fault) goes = tt
 
-  pub up_refused : (result : Result (Unit {0}) RelayFault) → IfErr result (λ fault. fault ≢ faults.Early)
-      → IfErr result (λ fault. OnEnd fault ((story : Story) → Stands old story → Adds before after_it (λ more. UpEnds old.form old.secret fault (with_up bytes more story))))
-      → IfErr result (λ fault. fault ≢ faults.Memory → (story : Story) → Stands old story → IsRefusedFor old.form old.secret Up bytes fault story)
-  up_refused (Ok x) never ends = tt
-  up_refused (Err faults.Early) never ends = λ known story stands. absurd (never refl)
-  up_refused (Err (faults.Start found)) never ends = λ known story stands. let adds = ends story stands in (adds.more, adds.holds)
-  up_refused (Err (faults.Frame fault)) never ends = λ known story stands. let adds = ends story stands in (adds.more, adds.holds)
-  up_refused (Err (faults.Length len)) never ends = λ known story stands. let adds = ends story stands in (adds.more, adds.holds)
-  up_refused (Err faults.Memory) never ends = λ known story stands. absurd (known refl)
-
   -- ---- down
-
-  late : (more : List ℕ) (story : Story) → (length story.client < 64 → ⊥) → Relayed old.form old.secret (with_down bytes more story)
-      → GoesOn old.form old.secret (with_down bytes more story)
-  late more story not (inl early) = absurd (not early.few)
-  late more story not (inr goes) = goes
-
-  pub down_taken : (result : Result (Unit {0}) RelayFault)
-      → ((story : Story) → Stands old story → (result ≡ Err faults.Early ↔ length story.client < 64))
-      → OnOk result ((story : Story) → Stands old story → Adds before after_it (λ more. Stands new (with_down bytes more story)))
-      → OnOk result ((story : Story) → Stands old story → Adds before after_it (λ more. TakesOne old new Down bytes more story))
-  down_taken (Ok x) early goes = λ story stands.
-      let adds = goes story stands in
-      record {
-        more = adds.more;
-        appended = adds.appended;
-        holds = record {
-          taken = late adds.more story (λ few. let no = (early story stands).1 few in cc)
-              (sides old new (with_down bytes adds.more story) same.0 same.1 (written new (with_down bytes adds.more story) adds.holds));
-          stands = adds.holds;
-        };
-      }
-  down_taken (Err fault) early goes = tt
 
   pub down_refused : (result : Result (Unit {0}) RelayFault)
       → ((story : Story) → Stands old story → (result ≡ Err faults.Early ↔ length story.client < 64))

@@ -3,13 +3,13 @@ use Rattle.std.proofs.Common.{◌≡◌, ◌≢◌, ◌<◌, ◌+◌, ℕ, List,
 use Rattle.mt_edge.specs.declared.net_call.NetCall.{NetCall}
 use Rattle.mt_edge.specs.declared.net_call.NetCall.TheVariants.{Accept}
 use Rattle.mt_edge.specs.declared.net_call.Outcome.TheVariants.{Failed}
-use Rattle.mt_edge.specs.Faults.{Rose, one_more}
+use Rattle.mt_edge.specs.Faults.{Rose}
 use Rattle.server_core.specs.declared.desk.DeskFault.{DeskFault}
 use Rattle.server_core.specs.declared.desk.DeskFault.TheVariants as faults
 use Rattle.server_node.specs.Trace.{Rules}
 use Rattle.server_node.specs.declared.conn.ConnEnd.{ConnEnd}
 use Rattle.server_node.specs.declared.conn.ConnEnd.TheVariants as ends
-use Rattle.cmd_serve.specs.Connections.{AreNoted, AreNotedBy, Between, Connection, CountsEnding, GoesOn, IsNoted, behind_all}
+use Rattle.cmd_serve.specs.Connections.{AreNoted, AreNotedBy, Between, Connection, GoesOn, IsNoted, behind_all}
 use Rattle.cmd_serve.specs.Inner.{CountsDeskBy, CountsTaken, CountsTaking, IsAt, IsBehind, IsDiskEnd, IsServeFault, LeavesCount, ServedAll, ServedSoFar, Side, Took, TookNone, TookOne, ending_by}
 use Rattle.cmd_serve.specs.declared.ending.Ending.{Ending}
 use Rattle.cmd_serve.specs.declared.ending.Ending.TheVariants.{Served, Stopped, NotTaken, Journal, Memory}
@@ -177,20 +177,6 @@ each-served rules first count conns calls later all so_far = record {
 }
 
 -- ---- counts
-
-counts-as : (due ending : Ending) (first after : ℕ) → Some due ≡ Some ending → CountsEnding due first after → CountsEnding ending first after
-counts-as due ending first after same counted = let is : due ≡ ending = cc in subst (λ (one : Ending). CountsEnding one first after) is counted
-
-pub counts-ending : (end : Option ConnEnd) (ending : Ending) (first before after : ℕ) → ending_by end ≡ Some ending → before ≡ first → CountsTaking end before after → CountsEnding ending first after
-counts-ending None ending first before after same is counted = counts-as NotTaken ending first after same (counted ∙ ap one_more is)
-counts-ending (Some ends.Stopped) ending first before after same is counted = counts-as Stopped ending first after same (counted ∙ is)
-counts-ending (Some ends.Memory) ending first before after same is counted = counts-as Memory ending first after same (counted ∙ is)
-counts-ending (Some ends.Ended) ending first before after same is counted = cc
-counts-ending (Some ends.LinkFault) ending first before after same is counted = cc
-counts-ending (Some (ends.Frame fault)) ending first before after same is counted = cc
-counts-ending (Some ends.Start) ending first before after same is counted = cc
-counts-ending (Some ends.TurnsSpent) ending first before after same is counted = cc
-counts-ending (Some (ends.Journal fault)) ending first before after same is counted = counts-as Journal ending first after same (counted ∙ is)
 
 pub counts-going : (end : Option ConnEnd) (first before after : ℕ) → ending_by end ≡ None → before ≡ first → CountsTaking end before after → after ≡ first
 counts-going None first before after none is counted = cc

@@ -1,5 +1,5 @@
 -- A server comes of a journal's file, or none.
-use Rattle.std.proofs.Common.{◌≡◌, ◌≢◌, ℕ, List, [], ◌∷◌, ◌++◌, length, Option, None, Some, inl, inr, IfSome, IsSomeAnd, IfOk, IfErr, Result, Ok, Err, refl, sym, ap, subst, ◌∙◌}
+use Rattle.std.proofs.Common.{◌≡◌, ◌≢◌, ℕ, List, [], ◌∷◌, ◌++◌, Option, None, Some, inl, inr, IfSome, IsSomeAnd, IfOk, IfErr, Result, Ok, Err, refl, ap, subst, ◌∙◌}
 use Rattle.auth_keys.specs.declared.ring.RingKey.{RingKey}
 use Rattle.disks.specs.Told.{DiskTold}
 use Rattle.draws.specs.Draws.{draw_after, next_bytes}
@@ -16,7 +16,7 @@ use Rattle.sess_records.specs.declared.fault.JournalFault.{JournalFault}
 use Rattle.sess_records.specs.declared.fault.JournalFault.TheVariants as causes
 use Rattle.sess_records.specs.declared.records.Record.{Record}
 use Rattle.sess_journal.specs.Files.{IsNoJournalAt}
-use Rattle.sess_journal.specs.Replay.{Bases, Basis, Reached, Replays, at_first}
+use Rattle.sess_journal.specs.Replay.{Basis, Reached, Replays, at_first}
 use Rattle.cmd_serve.specs.Inner.{FoundIn, IsLeft, OpensFile, ShutsFile}
 use Rattle.cmd_serve.specs.Journals.{Drawing, Keeping, SeedsBy, basis_of, Faulty, Foreign, Starved, New, Old}
 
@@ -42,9 +42,6 @@ count-in count disk None same = absurd same
 count-in count disk (Some other) same = same
 
 module _ {K D : Type 0} (drawing : Drawing D) (ring : List RingKey) (told : K → Option DiskTold) (place faults : K → ℕ) where
-  bases : Bases (List RingKey) D
-  bases own seed = basis_of drawing own seed
-
   nothing : (file : Option DiskTold) → IfSome file (λ some. FoundIn drawing ring Faulty some.contents)
   nothing None = tt
   nothing (Some file) = tt
@@ -230,23 +227,3 @@ module _ {K D : Type 0} (drawing : Drawing D) (ring : List RingKey) (told : K �
     counted = subst (λ (count : ℕ). HasCause back.1 count (faults back.0)) counts shuts.counted;
     same_place = shuts.same_place ∙ there;
   }
-
--- ---- by its length
-
-no-bytes : (bytes : List ℕ) → length bytes ≡ 0 → bytes ≡ []
-no-bytes [] none = refl
-no-bytes (byte ∷ bytes) none = cc
-
-pub empty-file : (was is : Option DiskTold) (len : ℕ) → is ≡ was → IfSome was (λ file. len ≡ length file.contents) → len ≡ 0 → IfSome is (λ file. file.contents ≡ [])
-empty-file was None len same holds none = tt
-empty-file None (Some file) len same holds none = cc
-empty-file (Some other) (Some file) len same holds none =
-    let one : file ≡ other = cc in
-    no-bytes file.contents (ap (λ (some : DiskTold). length some.contents) one ∙ sym holds ∙ none)
-
-pub some-file : (was is : Option DiskTold) (len : ℕ) → is ≡ was → IfSome was (λ file. len ≡ length file.contents) → len ≢ 0 → IfSome is (λ file. file.contents ≢ [])
-some-file was None len same holds other = tt
-some-file None (Some file) len same holds other = cc
-some-file (Some file_was) (Some file) len same holds other = λ is.
-    let one : file ≡ file_was = cc in
-    other (holds ∙ ap (λ (some : DiskTold). length some.contents) (sym one) ∙ ap (λ (bytes : List ℕ). length bytes) is)

@@ -63,12 +63,6 @@ tells-lines told faults first middle last one other line next due answer is also
 pub tells-line : {T : Type 0} (out : Outside T) (due : Status) (text line : List ℕ) (answer : Status) → text ≡ line → Tells out due text answer → Tells out due line answer
 tells-line out due text line answer is tells = subst (λ (some : List ℕ). Tells out due some answer) is tells
 
-pub writes-line : (first last : Option (List ℕ)) (text line : List ℕ) → text ≡ line → IfSome first (λ bytes. last ≡ Some (bytes ++ text)) → IfSome first (λ bytes. last ≡ Some (bytes ++ line))
-writes-line first last text line is wrote = subst (λ (some : List ℕ). IfSome first (λ bytes. last ≡ Some (bytes ++ some))) is wrote
-
-pub front-line : (first last : Option (List ℕ)) (text line : List ℕ) → text ≡ line → Front first last text → Front first last line
-front-line first last text line is wrote = subst (λ (some : List ℕ). Front first last some) is wrote
-
 -- ---- a text that is written whole, before another one
 
 abbrev pub First : Option (List ℕ) → Option (List ℕ) → List ℕ → Type 0

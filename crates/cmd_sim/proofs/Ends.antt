@@ -153,22 +153,6 @@ module _ (one : (text : List ℕ) (events others : List Placed) → Spells text 
 -- ---- there is none
 
 module _ {S O : Type 0} (wire : Bool) (input : Outside S) (out : Outside O) (untouched : IsUntouched out) where
-  pub unread-run : HadFault input → SimRun wire input out status.ReadFault
-  unread-run fault = record {
-    ends = inr (inl refl);
-    read = λ e. absurd cc;
-    reported = λ e. absurd cc;
-    completeness = if-told (input.told input.before) _ (λ text events h. inr (inl refl));
-    refused = λ e. absurd cc;
-    refusals = if-told (input.told input.before) _ (λ text why h. inr (inl refl));
-    spent = λ e. absurd cc;
-    spending = if-told (input.told input.before) _ (λ text why h. inr (inl refl));
-    read_fault = λ e. fault;
-    write_fault = λ e. absurd cc;
-    front = λ e. absurd cc;
-    nothing = λ e. untouched;
-  }
-
   pub out-of-memory-run : SimRun wire input out status.Memory
   out-of-memory-run = record {
     ends = inr (inr (inr refl));

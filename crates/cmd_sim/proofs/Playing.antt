@@ -24,7 +24,7 @@ use Rattle.sim_world.specs.Told.{Tells, refusal_of}
 use Rattle.statuses.specs.declared.answer.Answer.{Answer}
 use Rattle.statuses.specs.declared.status.Status.{Status}
 use Rattle.statuses.specs.declared.status.Status.TheVariants as status
-use Rattle.statuses.specs.Lines.{input_bytes_max, refusal_line, too_long}
+use Rattle.statuses.specs.Lines.{input_bytes_max, refusal_line}
 use Rattle.cmd_sim.specs.Inner.{IsRefusalOf, Plays, Refuses}
 use Rattle.cmd_sim.specs.Sim.{IsOfSim, Owes, status_of}
 use Rattle.cmd_sim.specs.Worlds.{KeptWorld, Registers, StandsFor, sim_refused, sim_setting, sim_world}
@@ -35,9 +35,6 @@ drop-all xs k h = drop_of_length-le xs h
 one-of : (event : Event) → IsOfBytes event → All IsOfBytes (event ∷ [])
 one-of event h zero d below = h
 one-of event h (suc i) d below = absurd (omega (arith, below))
-
-pub none-of : All IsOfBytes []
-none-of i d below = absurd (omega (arith, below))
 
 -- what stands for a world stands for the same one
 pub still-stands : {kept : KeptWorld} (world same : World ℕ Registers) → world ≡ same → StandsFor kept world → StandsFor kept same
@@ -203,16 +200,3 @@ bad-owes wire (Err e) text bad fault short is line one due = tt
 pub bad-of : {E : Type 0} (r : Result Answer E) → IfOk r (λ a. a.status ≡ status.InputRefused) → IfOk r (λ a. IsOfSim a.status)
 bad-of (Ok a) one = inr (inl one)
 bad-of (Err e) one = tt
-
--- ---- where the text is what was left
-
-pub owes-left : (wire : Bool) (input : Option (List ℕ)) (text : List ℕ) (one : Status) (due : List ℕ) → IfSome input (λ left. text ≡ left) → Owes wire text one due
-    → IfSome input (λ left. Owes wire left one due)
-owes-left wire None text one due same h = tt
-owes-left wire (Some left) text one due same h = subst (λ (t : List ℕ). Owes wire t one due) same h
-
-pub long-owes : {E : Type 0} (wire : Bool) (r : Result Answer E) (input : Option (List ℕ)) → IfSome input (λ left. input_bytes_max < length left) → IfOk r (λ a. a.status ≡ status.InputRefused)
-    → IfOk r (λ a. a.text ≡ too_long) → IfOk r (λ a. IfSome input (λ left. Owes wire left a.status a.text))
-long-owes wire (Ok a) None long one told = tt
-long-owes wire (Ok a) (Some left) long one told = inr (inl (one, inl (record { long = long; told = told })))
-long-owes wire (Err e) input long one told = tt

@@ -8,7 +8,7 @@ use Rattle.client_rules.specs.Asking.{has_call}
 use Rattle.client_rules.specs.Client.{Client, calls_of}
 use Rattle.kifzaro.specs.declared.error.Error.{Error}
 use Rattle.call_table.specs.Table.{Call, State, call_no, is_open, state_at}
-use Rattle.kifzaro.specs.Clients.{AreDecided, IsDecidedAt, TellsNoCall, TellsReply, state_of}
+use Rattle.kifzaro.specs.Clients.{IsDecidedAt, TellsNoCall, TellsReply, state_of}
 
 -- the calls before a place are decided
 abbrev pub AreDecidedBelow : List Call → ℕ → Type 0
@@ -24,13 +24,6 @@ one_here calls end place state before at decided (inr less) = before place less
 pub one_more : (calls : List Call) (end : ℕ) (state : State) → AreDecidedBelow calls end → state_at (call_no end) calls ≡ Some state → is_open state ≡ false
     → AreDecidedBelow calls (end + 1)
 one_more calls end state before at decided place less = one_here calls end place state before at decided (eq-or-lt_of_le (omega (arith, less)))
-
--- one that isn't is none of those
-pub one_open : (calls : List Call) (place : ℕ) (state : State) → place < length calls → state_at (call_no place) calls ≡ Some state → is_open state ≡ true
-    → AreDecided calls → ⊥
-one_open calls place state there at undecided all =
-    let decided : is_open state ≡ false = subst (λ (found : Option State). IfSome found (λ one. is_open one ≡ false)) at (all place there) in
-    true≢false (sym undecided ∙ decided)
 
 -- ---- a call of a number
 

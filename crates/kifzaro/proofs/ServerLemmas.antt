@@ -112,11 +112,6 @@ event_did before after drawn left effects answer now server is given keeps draws
     })
     (keeps at before.draw (early before.server.moment now server.now is.stands.moment is.order.at given)) waits none
 
--- what nothing was done to is the server that it was
-pub still : (before after : Kept) (server : Server) → Is before server → after.server ≡ before.server → Is after server
-still before after server is same =
-    record { stands = subst (λ (kept : core.Kept (List RingKey)). core.Stands kept server) (sym same) is.stands; order = is.order }
-
 -- a packet that doesn't open leaves the moment
 pub moved : Later → (before after : Kept) (now : ℕ) (server : Server) → now ≤ latest_moment → Is before server
     → after.server ≡ record before.server { moment = max before.server.moment now } → Is after (record server { now = max before.server.moment now })

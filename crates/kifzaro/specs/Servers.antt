@@ -17,7 +17,7 @@ use Rattle.server_core.specs.Server as core
 use Rattle.waits.specs.Jobs.{Queue}
 use Rattle.kifzaro.specs.declared.error.Error.{Error}
 use Rattle.kifzaro.specs.declared.error.Error.TheVariants as errors
-use Rattle.kifzaro.specs.declared.names.SessionName.{SessionName}
+use Rattle.server_core.specs.declared.session_name.SessionName.{SessionName}
 
 -- ---- what contracts see of a server
 

@@ -25,7 +25,6 @@ ghost use Rattle.kifzaro.specs.declared.error.Error.TheVariants as errors;
 
 use crate::error::Error;
 use crate::given::{Given, is_reply};
-use crate::names::SessionName;
 use crate::queue::Queue;
 use crate::rings::seal_of;
 use crate::telling::put;
@@ -36,7 +35,7 @@ use law_server_replay::laws::events_draw_words;
 use msg_ids::Moment;
 use octets::Memory;
 use server_core::order_laws::{events_keep_order, runs_keep_order};
-use server_core::{Heard, Server as Core};
+use server_core::{Heard, Server as Core, SessionName};
 use server_output::Out;
 use server_session::laws::sessions_stand_later;
 use std::alloc::Global;

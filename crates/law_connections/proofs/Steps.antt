@@ -73,9 +73,6 @@ module _ {S V : Type 0} (grows : Growing S V) (setting : Setting S V) where
   fresh_again : (world : World S V) (draw : S) (now : ℕ) → Fresh (record world { draw = draw; clock = now }) → Fresh world
   fresh_again world draw now fresh = record { some = fresh.some; apart = fresh.apart }
 
-  fresh_with : (world : World S V) (draw : S) → Fresh world → Fresh (drawing draw world)
-  fresh_with world draw fresh = record { some = fresh.some; apart = fresh.apart }
-
   abbrev Ordered : World S V → Type 0
   Ordered world = IsServed setting world
 

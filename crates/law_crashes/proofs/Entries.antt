@@ -28,10 +28,6 @@ Alike [] (f ∷ fs) = ⊥
 Alike (e ∷ es) [] = ⊥
 Alike (e ∷ es) (f ∷ fs) = (unrun f ≡ unrun e) × Alike es fs
 
-alike_itself : (es : List Entry) → Alike es es
-alike_itself [] = tt
-alike_itself (e ∷ es) = (refl, alike_itself es)
-
 alike_both : (es fs more others : List Entry) → Alike es fs → Alike more others → Alike (es ++ more) (fs ++ others)
 alike_both [] [] more others h k = k
 alike_both [] (f ∷ fs) more others h k = absurd h

@@ -1,6 +1,6 @@
 -- Lists, and what stands in front of their last members.
-use Rattle.std.proofs.Common.{◌≡◌, ◌∙◌, ℕ, Bool, true, false, List, [], ◌∷◌, ◌++◌, take, refl, sym, ap, suc, zero, if◌then◌else◌}
-use Rattle.std.specs.List.{AllByRecursion, list_any}
+use Rattle.std.proofs.Common.{◌≡◌, ◌∙◌, ℕ, Bool, true, false, List, [], ◌∷◌, ◌++◌, take, sym, ap, suc, zero, if◌then◌else◌}
+use Rattle.std.specs.List.{AllByRecursion}
 use Rattle.std.proofs.lemmas.Bool.{cond_both}
 
 module _ {X : Type 0} where
@@ -8,22 +8,10 @@ module _ {X : Type 0} where
   all_front P [] ys h = tt
   all_front P (x ∷ xs) ys h = (h.0, all_front P xs ys h.1)
 
-  pub all_back : (P : X → Type 0) (xs ys : List X) → AllByRecursion P (xs ++ ys) → AllByRecursion P ys
-  all_back P [] ys h = h
-  all_back P (x ∷ xs) ys h = all_back P xs ys h.1
-
-  pub all_both : (P : X → Type 0) (xs ys : List X) → AllByRecursion P xs → AllByRecursion P ys → AllByRecursion P (xs ++ ys)
-  all_both P [] ys h k = k
-  all_both P (x ∷ xs) ys h k = (h.0, all_both P xs ys h.1 k)
-
   pub all_taken : (P : X → Type 0) (n : ℕ) (xs : List X) → AllByRecursion P xs → AllByRecursion P (take n xs)
   all_taken P zero xs h = tt
   all_taken P (suc n) [] h = tt
   all_taken P (suc n) (x ∷ xs) h = (h.0, all_taken P n xs h.1)
-
-  pub any_behind : (test : X → Bool) (old xs ys : List X) → list_any test xs ≡ list_any test ys → list_any test (old ++ xs) ≡ list_any test (old ++ ys)
-  any_behind test [] xs ys same = same
-  any_behind test (x ∷ old) xs ys same = rw (any_behind test old xs ys same) refl
 
   -- what has a mark stands in front of those that have none
   module _ (marked : X → Bool) where

@@ -128,12 +128,6 @@ new_word x xs ys fresh more =
 pub within_itself : (xs : List ℕ) → IsWithin xs xs
 within_itself xs x = omega arith
 
-pub within_then : (xs ys zs : List ℕ) → IsWithin xs ys → IsWithin ys zs → IsWithin xs zs
-within_then xs ys zs one two x = let a = one x in let b = two x in omega (arith, a, b)
-
 pub within_both : (us vs xs ys : List ℕ) → IsWithin us xs → IsWithin vs ys → IsWithin (us ++ vs) (xs ++ ys)
 within_both us vs xs ys one two x =
     let a = one x in let b = two x in omega (arith, a, b, count_append x us vs, count_append x xs ys)
-
-pub within_more : (xs ys : List ℕ) → IsWithin xs (xs ++ ys)
-within_more xs ys x = omega (arith, count_append x xs ys)

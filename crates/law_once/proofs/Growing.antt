@@ -117,10 +117,6 @@ module _ (x : ℕ) (before : List Session) where
   abbrev pub Holds : List Session → Type 0
   Holds sessions = (b : Session) → Contains before b → Grows b (session_named (name_of b) sessions)
 
-  itself_grows : (b : Session) (found : Option Session) → ((session : Session) → found ≡ Some session → b ≡ session) → Grows b found
-  itself_grows b None same = tt
-  itself_grows b (Some session) same = let e = ap (λ (s : Session). drawn x s) (same session refl) in omega (arith, e)
-
   module _ {S : Type 0} (k : Speaks S) (alone : Themselves S) (setting : Setting S) where
     -- it keeps its name, and what it drew
     abbrev Says : (Speaker S → Speaker S) → Type 0

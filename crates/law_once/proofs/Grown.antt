@@ -14,9 +14,6 @@ use Rattle.world_rules.specs.Premises.{drawn_for_session}
 use Rattle.law_server.specs.Drawing.{DrawsSalts}
 use Rattle.law_once.proofs.Counting.{count, count_append}
 
-words : List Row → List ℕ
-words rows = map (λ (row : Row). row.word) rows
-
 words_more : (rows more : List Row) → map (λ (row : Row). row.word) (rows ++ more) ≡ map (λ (row : Row). row.word) rows ++ map (λ (row : Row). row.word) more
 words_more [] more = refl
 words_more (row ∷ rows) more = ap (λ (l : List ℕ). row.word ∷ l) (words_more rows more)

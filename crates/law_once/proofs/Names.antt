@@ -57,9 +57,6 @@ module _ {S V : Type 0} (k : Speaks S) (alone : Themselves S) (setting : Setting
   abbrev Had : World S V → Type 0
   Had behind = IsWithin (names_drawn world) (names_drawn behind)
 
-  rest : List ℕ
-  rest = flat_map drawn_for_session (lives world)
-
   itself : Had world
   itself = within_itself (names_drawn world)
 

@@ -43,9 +43,7 @@ body-bad : is_good bad_body ≡ false
 unfolding spelling
 body-bad = refl
 
-invalid-bad : is_good encrypted_message_invalid ≡ false
 unfolding spelling
-invalid-bad = refl
 
 unbound-bad : is_good auth_key_perm_empty ≡ false
 unfolding spelling

@@ -316,9 +316,6 @@ module _ {S V : Type 0} (setting : Setting S) (serve : Step V) (fresh : V) (pair
       → AreInTurn pair answer.server.sessions answer.server.jobs (past ++ (course.entries ++ answer.entries))
   behind-all course answer so = subst (AreInTurn pair answer.server.sessions answer.server.jobs) (append_assoc past course.entries answer.entries) so
 
-  at : ℕ → Course S V → Setting S
-  at moment course = setting_at setting moment course.server
-
   work-kept : (now : Setting S) (place : ℕ) (job : Option Job) (course : Course S V) → ready_job place course.server.jobs ≡ job → AreSo course
       → IsAnswered setting pair (past ++ course.entries) (after_run now place job serve course.service course.server course.draw).0
   work-kept now place None course is so = ended-kept now pair (past ++ course.entries) (begun course.server course.draw) (begun-kept course so)

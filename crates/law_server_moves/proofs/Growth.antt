@@ -44,14 +44,6 @@ AllFrom from now = AllByRecursion (ComesFrom from) now
 pub all_itself : (sessions : List Session) → AllFrom sessions sessions
 all_itself sessions = all_of (ComesFrom sessions) sessions (λ o there. record { x = o; there = there; name = refl; unique = refl; grown = grown_itself o })
 
-pub from_then : (first middle last : List Session) → AllFrom first middle → AllFrom middle last → AllFrom first last
-from_then first middle last one two =
-    all_of (ComesFrom first) last
-    (λ z there.
-    let b = each_of (ComesFrom middle) last two z there in
-    let a = each_of (ComesFrom first) middle one b.x b.there in
-    record { x = a.x; there = a.there; name = a.name ∙ b.name; unique = a.unique ∙ b.unique; grown = grown_then a.x b.x z a.grown b.grown })
-
 -- what a session does that speaks
 pub record Grows {S : Type 0} (before after : Speaker S) : Type 0 where
   pub name : name_of after.session ≡ name_of before.session

@@ -180,10 +180,6 @@ module _ {S : Type 0} (on : GoOn) (blank : (w : World) (unique : ℕ) → Reache
       abbrev more : List Session
       more = filter (is_named n) (state.sessions ++ z ∷ [])
 
-      -- one that has its name is it
-      is_first : (o : Session) → Contains state.sessions o → is_named n o ≡ true → o ≡ first
-      is_first o among named = one_of_number state.sessions h.apart o first among first_there (sym (ap (λ (m : Name). m.session) (name_is n o named)))
-
       none_named : has_named n left ≡ false
       none_named =
           none_has n left

@@ -5,13 +5,13 @@ use Rattle.std.specs.List.{AllByRecursion, Contains, list_any}
 use Rattle.std.proofs.lemmas.Bool.{cases_Bool}
 use Rattle.outbox.specs.Replies.{fits}
 use Rattle.waits.specs.declared.job.Unfinished.{Unfinished}
-use Rattle.waits.specs.Jobs.{Queue, after_answer, is_ready, settled, told as job_told, waits_for, without_first, without_ready, without_session}
+use Rattle.waits.specs.Jobs.{Queue, after_answer, is_ready, settled, told as job_told, waits_for, without_first, without_ready}
 use Rattle.server_rules.specs.Server.{Fate, IsKept, Reply, Session, WasAcked, WasDropped, is_fate_kept, is_kept, kept_replies}
 use Rattle.server_rules.specs.Speaking.{dropped, made_room}
 use Rattle.server_rules.specs.Waiting.{GoesOn, InVain, Outlook, Over, told}
 use Rattle.server_rules.specs.Rows.{acked_by}
 use Rattle.law_server_moves.specs.Servers.{GoOn, HasSame, IsJobOf, has_dropped, is_dropped}
-use Rattle.law_server_moves.proofs.Lists.{from_filter, here, later, map_all, all_of}
+use Rattle.law_server_moves.proofs.Lists.{here, later, map_all}
 
 -- ---- replies
 
@@ -168,7 +168,3 @@ pub all_told : (outlook : Outlook) (session : Session) (number : ℕ) (jobs : Qu
 all_told Over session number jobs = settled_from jobs session.key session.number number true jobs (λ one is. is)
 all_told InVain session number jobs = settled_from jobs session.key session.number number false jobs (λ one is. is)
 all_told GoesOn session number jobs = same_jobs jobs
-
-pub session_out : (key session : ℕ) (jobs : Queue) → AllByRecursion (IsJobOf jobs) (without_session key session jobs)
-session_out key session jobs =
-    all_of (IsJobOf jobs) (without_session key session jobs) (λ one among. (one, (from_filter _ jobs one among).0, refl, refl, refl, refl))

@@ -73,12 +73,3 @@ filtered_out test (x ∷ xs) h = rw h.0 (filtered_out test xs h.1)
 pub filtered_in : {X : Type 0} (test : X → Bool) (xs : List X) → AllByRecursion (λ (x : X). test x ≡ true) xs → filter test xs ≡ xs
 filtered_in test [] h = refl
 filtered_in test (x ∷ xs) h = rw h.0 (ap (λ (l : List _). x ∷ l) (filtered_in test xs h.1))
-
--- two tests that agree on all keep the same
-pub filtered_alike : {X : Type 0} (test other : X → Bool) (xs : List X) → AllByRecursion (λ (x : X). test x ≡ other x) xs → filter test xs ≡ filter other xs
-filtered_alike test other [] h = refl
-filtered_alike test other (x ∷ xs) h =
-    elim (cases_Bool (other x)) [
-      | inl holds ↦ rw (h.0 ∙ holds, holds) (ap (λ (l : List _). x ∷ l) (filtered_alike test other xs h.1))
-      | inr fails ↦ rw (h.0 ∙ fails, fails) (filtered_alike test other xs h.1)
-    ]

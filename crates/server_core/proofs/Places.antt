@@ -13,7 +13,7 @@ use Rattle.server_rules.specs.Answer.{room_min}
 use Rattle.server_session.specs.declared.session.SessionState.{SessionState}
 use Rattle.server_session.specs.SessionState.{IsAt, numbers_left}
 use Rattle.server_session.specs.Names.{name_kept}
-use Rattle.server_core.specs.Sessions.{AreApart, is_kept_as, without_kept}
+use Rattle.server_core.specs.Sessions.{is_kept_as, without_kept}
 use Rattle.server_core.specs.Server.{CanSpeak, IsSound, without_kept_where}
 
 -- some session, where there is a place
@@ -35,15 +35,6 @@ names-set standings n standing i d within same =
       | inr other ↦
           ap name_kept (get_or-set_other standings n i standing d (λ at. false≢true (sym other ∙ eq-eqb i n at)))
     ]
-
-pub apart-set : (standings : List SessionState) (n : ℕ) (standing : SessionState) → n < length standings
-    → ((d : SessionState) → name_kept standing ≡ name_kept (get_or standings n d)) → AreApart standings → AreApart (set standings n standing)
-apart-set standings n standing within same apart = λ i j d lt inside.
-    let long : length (set standings n standing) ≡ length standings = length-set standings n standing in
-    let first = names-set standings n standing i d within (same d) in
-    let next = names-set standings n standing j d within (same d) in
-    let others : name_kept (get_or standings i d) ≢ name_kept (get_or standings j d) = apart i j d lt (omega arith) in
-    λ is. others (sym first ∙ (is ∙ next))
 
 -- ---- what holds of each server
 

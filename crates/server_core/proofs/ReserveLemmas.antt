@@ -45,14 +45,6 @@ back-so items place d answers before new last within is was back =
 most-room : (room answers : ℕ) → answers ≤ max room answers
 most-room room answers = omega arith
 
-pub none-reserved : (place : ℕ) (items : List SessionState) (voices : List TickTurn) → length items ≤ place → AreReserved place items voices items
-none-reserved place items voices over =
-    record {
-      long = refl;
-      front = λ i d lt. refl;
-      each = λ i d e from lt. absurd (omega (arith, over, from, lt));
-    }
-
 next-place : (place i : ℕ) → place ≤ i → (i ≡ place → ⊥) → place + 1 ≤ i
 next-place place i from differ =
     elim (cases_Bool (nat_lt place i)) [

@@ -12,7 +12,6 @@ use Rattle.server_rules.specs.Waiting.{gives_up}
 use Rattle.law_server.specs.Order.{IsSpeaking, IsUnanswered}
 use Rattle.server_session.specs.declared.session.SessionState.{SessionState}
 use Rattle.server_dispatch.specs.declared.turn.Turn.{Turn}
-use Rattle.waits.specs.Held.{Held}
 use Rattle.server_dispatch.specs.Speaks.{Speaks, Spends}
 use Rattle.server_core.specs.One.{AreOwnFailures, fails_all, fails_first, given_up_by}
 use Rattle.server_core.specs.Failures.{HasFailures, SoFar, blocked_of}
@@ -98,26 +97,3 @@ spends-more now place standing after last turn next end one two =
       number = two.number ∙ one.number;
       at = λ is. two.at (one.at is);
     }
-
-pub spends-few : (now place limit : ℕ) (standing after : SessionState) (turn next : Turn) → place ≤ limit → Spends now place (place * 48) place standing turn after next
-    → Spends now limit (limit * 48) limit standing turn after next
-spends-few now place limit standing after turn next few one =
-    record {
-      places = omega (arith, one.places);
-      bytes = omega (arith, one.bytes);
-      numbers = omega (arith, one.numbers);
-      entries = omega (arith, one.entries);
-      places_taken = one.places_taken;
-      bytes_taken = one.bytes_taken;
-      key = one.key;
-      number = one.number;
-      at = one.at;
-    }
-
--- what stands for a speaker under other names of the same values
-pub speaks-as : {S : Type 0} (now : ℕ) (standing other : SessionState) (turn next : Turn) (jobs later : Held) (bindings : List Binding) (draw : S) (speaker : Speaker S)
-    → other ≡ standing → next ≡ turn → later ≡ jobs → Speaks now standing turn jobs.jobs bindings draw speaker → Speaks now other next later.jobs bindings draw speaker
-speaks-as now standing other turn next jobs later bindings draw speaker same_standing same_turn same_jobs speaks =
-    subst (λ (one : SessionState). Speaks now one next later.jobs bindings draw speaker) (sym same_standing)
-    (subst (λ (one : Turn). Speaks now standing one later.jobs bindings draw speaker) (sym same_turn)
-    (subst (λ (held : Held). Speaks now standing turn held.jobs bindings draw speaker) (sym same_jobs) speaks))

@@ -113,17 +113,6 @@ voices-step now standings voices order entries more place d e after next are wit
       silent = omega arith;
     }
 
--- there is room to note the place of a session that hasn't spoken
-pub silent-room : (standings : List SessionState) (voices : List TickTurn) (order : List ℕ) (room place : ℕ) (e : TickTurn) → AreVoices standings voices order room
-    → place < length standings → (get_or voices place e).spoke ≡ false → length order < length standings
-silent-room standings voices order room place e are within off =
-    let long = are.long in
-    let within_voices : place < length voices = omega arith in
-    let one : silent (get_or voices place e) ≡ 1 = silent-one (get_or voices place e) ∙ ap (λ (b : Bool). cond b 0 1) off in
-    let most = get_or-le-sum_by silent voices place e within_voices in
-    let few = are.silent in
-    omega arith
-
 -- a session that has an answer left has room for it
 pub has-room : (standing : SessionState) (voice : TickTurn) (entries : Held) → IsVoice standing voice → 0 < voice.left → 1 ≤ entries.room
     → HasRoom 1 48 1 standing (turn_with voice entries)

@@ -24,7 +24,7 @@ use Rattle.server_node.specs.Trace.{Hear, Talk, after_acts, moment_at, rules_of}
 use Rattle.server_node.specs.Writes.{end_in, unknown_key}
 use Rattle.server_node.specs.declared.conn.ConnEnd.{ConnEnd}
 use Rattle.server_node.specs.declared.conn.ConnEnd.TheVariants as ends
-use Rattle.server_node.specs.declared.heard.SessionName.{SessionName}
+use Rattle.server_core.specs.declared.session_name.SessionName.{SessionName}
 use Rattle.server_node.specs.declared.line.Line.TheVariants.{Framed}
 use Rattle.server_node.specs.declared.taking.Came.{Came}
 use Rattle.server_node.proofs.Cuts.{cut_from}

@@ -1,5 +1,5 @@
 -- One event of a desk, and what is sent of it.
-use Rattle.std.proofs.Common.{◌≡◌, ◌≢◌, max, ◌&&◌, ℕ, Bool, true, false, if◌then◌else◌, List, [], ◌∷◌, ◌++◌, map, Option, Some, None, refl, sym, ap, subst, ◌∙◌, append-nil, arith}
+use Rattle.std.proofs.Common.{◌≡◌, max, ◌&&◌, ℕ, Bool, true, false, if◌then◌else◌, List, [], ◌∷◌, ◌++◌, map, Option, Some, None, refl, sym, ap, subst, ◌∙◌, append-nil, arith}
 use Rattle.std.specs.List.{filter}
 use Rattle.auth_keys.specs.declared.ring.RingKey.{RingKey}
 use Rattle.envelope.specs.declared.parts.Dir.TheVariants.{Down}
@@ -25,7 +25,7 @@ use Rattle.server_node.specs.Trace.{Act, Attach, IsOutside, Outside, Rules, Run,
 use Rattle.server_node.specs.Writes.{WrittenBy}
 use Rattle.server_node.specs.declared.conn.ConnEnd.{ConnEnd}
 use Rattle.server_node.specs.declared.conn.ConnEnd.TheVariants as ends
-use Rattle.server_node.specs.declared.heard.SessionName.{SessionName}
+use Rattle.server_core.specs.declared.session_name.SessionName.{SessionName}
 use Rattle.server_node.specs.declared.line.Line.{Line}
 use Rattle.server_node.specs.declared.line.Line.TheVariants as lines
 use Rattle.server_node.proofs.Cuts.{cut_one}
@@ -303,10 +303,3 @@ fault_is_packet_end MayAnswer fault end is may = event_is_packet_end MayAnswer (
 
 pub send_is_packet_end : (MayAnswer : DeskFault → Type 0) (end : Option ConnEnd) → IsSendEnd end → IsPacketEnd MayAnswer end
 send_is_packet_end MayAnswer end can = event_is_packet_end MayAnswer end (send_is_end MayAnswer end can)
-
--- a fault of the desk is none of the link
-pub fault_of_desk : (fault : DeskFault) (end : ConnEnd) → end ≡ end_by fault → end ≢ ends.LinkFault
-fault_of_desk faults.Memory end is same = absurd cc
-fault_of_desk faults.Closed end is same = absurd cc
-fault_of_desk (faults.Full len) end is same = absurd cc
-fault_of_desk faults.Disk end is same = absurd cc

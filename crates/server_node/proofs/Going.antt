@@ -11,7 +11,7 @@ use Rattle.transport.specs.Spelt.{Spells}
 use Rattle.server_node.specs.Steps.{Framings, IsSameIn, Said, goes_out, going_out}
 use Rattle.server_node.specs.Writes.{WrittenBy}
 use Rattle.server_node.specs.declared.conn.ConnEnd.TheVariants as ends
-use Rattle.server_node.specs.declared.heard.SessionName.{SessionName}
+use Rattle.server_core.specs.declared.session_name.SessionName.{SessionName}
 use Rattle.server_node.specs.declared.line.Line.TheVariants.{Raw, Framed}
 use Rattle.server_node.proofs.Spelling.{frames_in}
 use Rattle.server_node.proofs.Writing.{wrote_nothing}
@@ -23,13 +23,6 @@ going_both heard front back =
 pub none_going : (outs : List Out) → going_out [] outs ≡ []
 none_going [] = refl
 none_going (out ∷ outs) = none_going outs
-
-pub framed_none : (wire : Line) (text : List ℕ) → Framings wire text [] wire text
-framed_none wire text = record {
-  bytes = [];
-  behind = sym (append-nil text);
-  tells = λ to before sent tells. subst (λ (packets : List (List ℕ)). Spells wire to packets (sent ++ [])) (sym (append-nil before)) (subst (λ (bytes : List ℕ). Spells wire to before bytes) (sym (append-nil sent)) tells);
-}
 
 pub framed_both : (first middle last : Line) (text between after : List ℕ) (one other : List (List ℕ))
     → Framings first text one middle between → Framings middle between other last after → Framings first text (one ++ other) last after

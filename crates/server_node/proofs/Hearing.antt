@@ -10,7 +10,6 @@ use Rattle.envelope.specs.declared.parts.Dir.TheVariants.{Up}
 use Rattle.envelope.specs.declared.parts.Envelope.{Envelope}
 use Rattle.envelope.specs.declared.refusal.Refusal.{Refusal}
 use Rattle.envelope.specs.declared.refusal.Refusal.TheVariants as refusals
-use Rattle.mt_edge.specs.Links.{Told}
 use Rattle.regs_service.specs.Served.{Step}
 use Rattle.server_core.specs.Desks.{Does}
 use Rattle.server_core.specs.Packets.{IsHeardOf, brought_in, effects_in}
@@ -30,8 +29,7 @@ use Rattle.server_node.specs.Trace.{Act, Attach, Hear, IsOutside, IsRead, Outsid
 use Rattle.server_node.specs.Writes.{WrittenBy, unknown_key}
 use Rattle.server_node.specs.declared.conn.ConnEnd.{ConnEnd}
 use Rattle.server_node.specs.declared.conn.ConnEnd.TheVariants as ends
-use Rattle.server_node.specs.declared.heard.SessionName.{SessionName}
-use Rattle.server_node.specs.declared.line.Line as lines
+use Rattle.server_core.specs.declared.session_name.SessionName.{SessionName}
 use Rattle.server_node.specs.declared.line.Line.TheVariants.{Framed}
 use Rattle.server_node.proofs.Cuts.{cut_one}
 use Rattle.server_node.proofs.Events.{Answers, same_tells}
@@ -45,14 +43,6 @@ tells_same wire wire_then to packets bytes same spells = record {
     place = same.1 ∙ spells.tells.place;
   };
   spelt = rw (same.0) spells.spelt;
-}
-
-pub said_from : (wire between : Line) (line : lines.Line) (heard : List SessionName) (told told_then : Option Told) (packets : List (List ℕ)) (end : Option ConnEnd) → SameOut wire between
-    → Said (Framed between) heard told packets end line told_then → Said (Framed wire) heard told packets end line told_then
-said_from wire between line heard told told_then packets end same said = record {
-  bytes = said.bytes;
-  sends = λ to before text quiet tells. said.sends to before text quiet (tells_same wire between to before text same tells);
-  written = said.written;
 }
 
 -- ---- what the desk heard is what the packet opens to

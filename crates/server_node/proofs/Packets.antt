@@ -11,7 +11,7 @@ use Rattle.server_node.specs.Steps.{IsSameIn}
 use Rattle.server_node.specs.Trace.{Act, Attach, Hear, IsOutside, Outside, Rules, Talk, first_acts, moment_at, packet_acts, rules_of}
 use Rattle.server_node.specs.declared.conn.ConnEnd.{ConnEnd}
 use Rattle.server_node.specs.declared.conn.ConnEnd.TheVariants as ends
-use Rattle.server_node.specs.declared.heard.SessionName.{SessionName}
+use Rattle.server_core.specs.declared.session_name.SessionName.{SessionName}
 use Rattle.server_node.proofs.Answering.{next_on}
 use Rattle.server_node.proofs.Doings.{did_both, did_under}
 

@@ -20,7 +20,7 @@ use Rattle.server_node.specs.Turns.{IsFramed, IsLine, IsRaw, PieceDone, PieceEnd
 use Rattle.server_node.specs.Writes.{WrittenBy, Wrote}
 use Rattle.server_node.specs.declared.conn.ConnEnd.{ConnEnd}
 use Rattle.server_node.specs.declared.conn.ConnEnd.TheVariants as ends
-use Rattle.server_node.specs.declared.heard.SessionName.{SessionName}
+use Rattle.server_core.specs.declared.session_name.SessionName.{SessionName}
 use Rattle.server_node.specs.declared.line.Line.{Line as Ends}
 use Rattle.server_node.specs.declared.line.Line.TheVariants.{Raw, Framed}
 use Rattle.server_node.proofs.Breaking.{breaks_in}

@@ -13,7 +13,7 @@ use Rattle.server_node.specs.Trace.{IsOutside, Outside, Rules, Talk, rules_of}
 use Rattle.server_node.specs.Turns.{TookTurn, TurnDone, TurnEnded, TurnsSoFar}
 use Rattle.server_node.specs.declared.conn.ConnEnd.{ConnEnd}
 use Rattle.server_node.specs.declared.conn.ConnEnd.TheVariants as ends
-use Rattle.server_node.specs.declared.heard.SessionName.{SessionName}
+use Rattle.server_core.specs.declared.session_name.SessionName.{SessionName}
 use Rattle.server_node.specs.declared.line.Line.TheVariants.{Raw}
 use Rattle.server_node.proofs.Lines.{text_of}
 

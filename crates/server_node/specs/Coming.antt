@@ -35,7 +35,7 @@ use Rattle.server_node.specs.Names.{was_heard, with_name}
 use Rattle.server_node.specs.Record.{with_answered}
 use Rattle.server_node.specs.Steps.{Said, going_out}
 use Rattle.server_node.specs.Writes.{end_in, unknown_key}
-use Rattle.server_node.specs.declared.heard.SessionName.{SessionName}
+use Rattle.server_core.specs.declared.session_name.SessionName.{SessionName}
 use Rattle.server_node.specs.declared.line.Line.{Line as Ends}
 use Rattle.server_node.specs.declared.line.Line.TheVariants.{Raw, Framed}
 use Rattle.server_node.specs.Trace.{Act, Attach, Hear, IsOutside, Outside, Talk, first_acts, moment_at, packet_acts, packets_acts}

@@ -14,7 +14,7 @@ use Rattle.server_node.specs.Trace.{rules_of, Act, IsOutside, Outside, Rules, Ta
 use Rattle.server_node.specs.Writes.{WrittenBy, WroteFront}
 use Rattle.server_node.specs.declared.conn.ConnEnd.{ConnEnd}
 use Rattle.server_node.specs.declared.conn.ConnEnd.TheVariants as ends
-use Rattle.server_node.specs.declared.heard.SessionName.{SessionName}
+use Rattle.server_core.specs.declared.session_name.SessionName.{SessionName}
 use Rattle.server_node.specs.declared.line.Line.{Line}
 
 -- where a connection stands: the servers that its desk stands for, its draw, the service, the sessions that were heard, the

@@ -1,7 +1,7 @@
 -- The names of the sessions that were heard on a connection.
 use Rattle.std.specs.Prelude.{◌==◌, ◌&&◌, Bool, if◌then◌else◌, List, [], ◌∷◌, ◌++◌}
 use Rattle.std.specs.List.{list_any}
-use Rattle.server_node.specs.declared.heard.SessionName.{SessionName}
+use Rattle.server_core.specs.declared.session_name.SessionName.{SessionName}
 
 abbrev pub is_name : SessionName → SessionName → Bool
 is_name one other = (one.key == other.key) && (one.session == other.session)

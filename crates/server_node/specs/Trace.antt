@@ -19,7 +19,7 @@ use Rattle.server_rules.specs.Server.{Server}
 use Rattle.server_core.specs.Packets.{brought_in}
 use Rattle.server_node.specs.Names.{was_heard, with_name}
 use Rattle.server_node.specs.Writes.{unknown_key}
-use Rattle.server_node.specs.declared.heard.SessionName.{SessionName}
+use Rattle.server_core.specs.declared.session_name.SessionName.{SessionName}
 
 -- ---- what the events stand on
 

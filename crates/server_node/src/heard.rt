@@ -1,17 +1,9 @@
 //! The sessions that were heard on a connection.
 
 use octets::Memory;
+use server_core::SessionName;
 use std::alloc::Global;
 use std::marker::Model;
-
-/// The name of a session.
-#[derive(Clone, Copy)]
-pub(crate) struct SessionName {
-    /// The identifier of its key.
-    pub(crate) key: u64,
-    /// Its number.
-    pub(crate) session: u64,
-}
 
 /// The sessions that were heard on a connection, in order of their first packets. Contracts see their names.
 #[derive(Drop)]
@@ -21,7 +13,7 @@ pub(crate) struct HeardSessions {
 
 impl Model for HeardSessions {
     ghost use Rattle.std.specs.Prelude.{List};
-    ghost use Rattle.server_node.specs.declared.heard.SessionName.{SessionName as Name};
+    ghost use Rattle.server_core.specs.declared.session_name.SessionName.{SessionName as Name};
 
     ghost Value = { List Name };
 

@@ -4,13 +4,14 @@ ghost use Rattle.std.specs.Prelude.{◌≡◌, ◌∷◌, [], List, IfErr, OnOk}
 ghost use Rattle.transport.specs.Forms.{IsSent};
 ghost use Rattle.server_node.specs.Steps.{Framings, HearsAlike, IsSameIn, IsSendEnd, Said, going_out, is_sendable};
 ghost use Rattle.server_node.specs.Writes.{Goes, WrittenBy, end_in, unknown_key};
-ghost use Rattle.server_node.specs.declared.heard.SessionName.{SessionName as Name};
+ghost use Rattle.server_core.specs.declared.session_name.SessionName.{SessionName as Name};
 
 use crate::conn::ConnEnd;
-use crate::heard::{HeardSessions, SessionName};
+use crate::heard::HeardSessions;
 use crate::line::Line;
 use mt_edge::{Link, Put};
 use octets::{Memory, Octets};
+use server_core::SessionName;
 use server_output::{Out, Outs};
 use std::alloc::Global;
 use transport::laws::a_packet_more_is_spelt;

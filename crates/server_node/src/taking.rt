@@ -10,7 +10,7 @@ ghost use Rattle.server_node.specs.Trace.{Attach};
 ghost use Rattle.server_node.specs.Writes.{CountsDesk, Goes, end_in};
 
 use crate::conn::ConnEnd;
-use crate::heard::{HeardSessions, SessionName};
+use crate::heard::HeardSessions;
 use crate::line::Line;
 use crate::sending::{say_framed, say_unknown};
 use envelope::Refusal;
@@ -19,7 +19,7 @@ use msg_ids::Moment;
 use mt_edge::Link;
 use octets::{Memory, Octets};
 use regs_service::Service;
-use server_core::{Desk, DeskFault, Heard, Reply};
+use server_core::{Desk, DeskFault, Heard, Reply, SessionName};
 use std::alloc::Global;
 use transport::{Framed, Next, Wire};
 

@@ -11,10 +11,6 @@ use Rattle.sess_records.specs.Standing.{HasTaken}
 use Rattle.sess_journal.specs.Playing.{Follows, Player, StandsAt, basis_for}
 use Rattle.sess_journal.specs.Replay.{Bases, Basis, IsLawful, Plays, Reached, Replays, at_first}
 
-some_map : {X : Type 0} {P Q : X → Type 0} → (o : Option X) → ((x : X) → P x → Q x) → IfSome o P → IfSome o Q
-some_map None f h = tt
-some_map (Some x) f h = f x h
-
 -- lists one behind the other
 pub whole : {D : Type 0} → (basis : Basis D) (entries more : List Record) (before between after : Reached) → Replays basis entries before between
     → Replays basis more between after → Replays basis (entries ++ more) before after
@@ -32,21 +28,6 @@ pub no_header : {D : Type 0} → (by_seed : List ℕ → Basis D) (at : ℕ) (to
 no_header by_seed at None none h = tt
 no_header by_seed at (Some file) none (inl h) = inl h
 no_header by_seed at (Some file) none (inr h) = absurd (let place : at ≡ 41 + length (written h.entries) = h.reached.place in omega (arith, none, place))
-
--- no record
-pub no_record : {D : Type 0} → (by_seed : List ℕ → Basis D) (seed : List ℕ) (entries : List Record) (gate at len : ℕ) (reached : Reached) (told : Option DiskTold)
-    → gate ≡ open_gate → IfSome told (λ file. Behind seed entries gate at len file) → Replays (by_seed seed) entries at_first reached
-    → IfSome told (λ file. IsFault at file.contents) → IfSome told (λ file. IsNoJournalAt by_seed at file.contents)
-no_record by_seed seed entries gate at len reached None is_open behind replays fault = tt
-no_record by_seed seed entries gate at len reached (Some file) is_open behind replays fault =
-    inr (record {
-      seed = seed;
-      entries = entries;
-      read = subst (λ (g : ℕ). Read seed entries g at file.contents) is_open behind.reached;
-      reached = reached;
-      replays = replays;
-      stops = inl fault;
-    })
 
 -- a record that isn't lawful
 pub not_lawful : {D : Type 0} → (by_seed : List ℕ → Basis D) (seed : List ℕ) (entries : List Record) (gate at len : ℕ) (reached : Reached) (told : Option DiskTold) (entry : Record) (later next all : ℕ) → gate ≡ open_gate → IfSome told (λ file. Behind seed entries gate at len file)
@@ -96,13 +77,3 @@ module _ {K S D : Type 0} (bases : Bases S D) (told : K → Option DiskTold) (op
       subst (λ (s : List ℕ). IsLawful (bases player.server.seal s) entry f.reached → ⊥) f.seed_is none in
       subst (λ (n : ℕ). IfSome (told opening.disk) (λ file. IsNoJournalAt (bases player.server.seal) n file.contents)) (sym place)
       (not_lawful (bases player.server.seal) opening.seed f.entries opening.gate opening.at opening.len f.reached (told opening.disk) entry next.gate next.at next.len is_open f.taken more played_there unlawful)
-
-  -- no record is there
-  pub ends_at : (at : ℕ) → at ≡ opening.at → opening.gate ≡ open_gate
-      → IfSome (told opening.disk) (λ file. (entries : List Record) → HasTaken told entries opening → IsFault at file.contents)
-      → IfSome (told opening.disk) (λ file. IsNoJournalAt (bases player.server.seal) at file.contents)
-  ends_at at place is_open none =
-      let fault : IfSome (told opening.disk) (λ file. IsFault opening.at file.contents) =
-      subst (λ (n : ℕ). IfSome (told opening.disk) (λ file. IsFault n file.contents)) place (some_map (told opening.disk) (λ file h. h f.entries f.taken) none) in
-      subst (λ (n : ℕ). IfSome (told opening.disk) (λ file. IsNoJournalAt (bases player.server.seal) n file.contents)) (sym place)
-      (no_record (bases player.server.seal) opening.seed f.entries opening.gate opening.at opening.len f.reached (told opening.disk) is_open f.taken played_there fault)

@@ -11,7 +11,7 @@ use Rattle.sess_records.specs.Format.{IsFault, Spells, open_gate}
 use Rattle.sess_records.specs.Seen.{Reading}
 use Rattle.sess_records.specs.Standing.{Behind, HasNext, SpellsOneOf}
 use Rattle.sess_journal.specs.Keeping.{ending}
-use Rattle.sess_journal.specs.Opening.{IsKeptAfter, IsLawfulFile, MayBecome}
+use Rattle.sess_journal.specs.Opening.{IsLawfulFile, MayBecome}
 use Rattle.sess_journal.specs.Playing.{Follows, Player}
 use Rattle.sess_journal.specs.Files.{IsNoJournalAt}
 use Rattle.sess_journal.specs.Replay.{Bases, Basis, Reached, Replays, at_first}
@@ -131,50 +131,8 @@ ended_at {K} told by_seed now seed entries reached first entry old left disk is 
 
 -- ---- what a read gives after a refusal
 
-abbrev pub KeptBy : JournalFault → Option DiskTold → Option DiskTold → Type 0
-KeptBy fault old new = IfSome old (λ before. IsSomeAnd new (λ after. IsKeptAfter fault before.contents after.contents))
-
--- nothing was read of it yet
-pub kept_at_once : (fault : JournalFault) (old new : Option DiskTold) (P : DiskTold → DiskTold → Type 0) → fault ≢ faults.Memory → IfSome old (λ before. IsSomeAnd new (λ after. P before after))
-    → IfNotJournal fault (λ _. IfSome old (λ before. IsSomeAnd new (λ after. after.contents ≡ before.contents))) → KeptBy fault old new
-kept_at_once fault None new P not h same = tt
-kept_at_once fault (Some before) None P not h same = absurd h
-kept_at_once faults.Disk (Some before) (Some after) P not h same = tt
-kept_at_once (faults.NotJournal at) (Some before) (Some after) P not h same = same
-kept_at_once faults.Memory (Some before) (Some after) P not h same = absurd (not refl)
-
--- it was read alone
-same_kept : (fault : JournalFault) (before after : List ℕ) → after ≡ before → IsKeptAfter fault before after
-same_kept faults.Disk before after same = tt
-same_kept (faults.NotJournal at) before after same = same
-same_kept faults.Memory before after same = inl same
-
-pub kept_when_read : (fault : JournalFault) (old mid new : Option DiskTold) → new ≡ mid → IfSome old (λ before. IsSomeAnd mid (λ after. after.contents ≡ before.contents)) → KeptBy fault old new
-kept_when_read fault None mid new is same = tt
-kept_when_read fault (Some before) None new is same = absurd same
-kept_when_read fault (Some before) (Some between) new is same =
-    subst (λ (t : Option DiskTold). IsSomeAnd t (λ after. IsKeptAfter fault before.contents after.contents)) (sym is) (same_kept fault before.contents between.contents same)
-
--- a call of the disk failed
-pub kept_on_fault : (old new : Option DiskTold) (P : DiskTold → DiskTold → Type 0) → IfSome old (λ before. IsSomeAnd new (λ after. P before after)) → KeptBy faults.Disk old new
-kept_on_fault None new P h = tt
-kept_on_fault (Some before) None P h = absurd h
-kept_on_fault (Some before) (Some after) P h = tt
-
 -- what is behind its records was cut
 module _ (seed : List ℕ) (entries : List Record) where
-  kept_records : (fault : JournalFault) (before after : List ℕ) → IfNotJournal fault (λ _. ⊥) → Spells seed entries before → (fault ≡ faults.Memory → Spells seed entries after) → IsKeptAfter fault before after
-  kept_records faults.Disk before after none spells too = tt
-  kept_records (faults.NotJournal at) before after none spells too = absurd none
-  kept_records faults.Memory before after none spells too = inr (record { seed = seed; entries = entries; spells = spells; spells_too = too refl })
-
-  pub kept_when_cut : (fault : JournalFault) (old mid new : Option DiskTold) (P : DiskTold → DiskTold → Type 0) → IfSome old (λ before. IsSomeAnd new (λ after. P before after))
-      → IfNotJournal fault (λ _. ⊥) → (fault ≡ faults.Memory → new ≡ mid) → IfSome old (λ before. Spells seed entries before.contents) → IfSome mid (λ file. Spells seed entries file.contents)
-      → KeptBy fault old new
-  kept_when_cut fault None mid new P h none same spells too = tt
-  kept_when_cut fault (Some before) mid None P h none same spells too = absurd h
-  kept_when_cut fault (Some before) mid (Some after) P h none same spells too =
-      kept_records fault before.contents after.contents none spells (λ memory. subst (λ (t : Option DiskTold). IfSome t (λ file. Spells seed entries file.contents)) (sym (same memory)) too)
 
 -- ---- a file of lawful records
 

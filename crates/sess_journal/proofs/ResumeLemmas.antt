@@ -1,5 +1,5 @@
 -- A server with its journal, and the end of a run that was cut off.
-use Rattle.std.proofs.Common.{◌≡◌, ℕ, Option, None, Some, Result, Ok, Err, IfOk, List, [], ◌∷◌, ◌++◌, max, refl, sym, ap, subst, ◌∙◌, arith}
+use Rattle.std.proofs.Common.{◌≡◌, ℕ, Option, None, Some, List, [], ◌∷◌, ◌++◌, max, refl, sym, ap, subst, ◌∙◌, arith}
 use Rattle.std.specs.Prelude.{◌≢◌, IfSome, IsSomeAnd}
 use Rattle.disks.specs.Told.{DiskTold}
 use Rattle.sess_records.specs.declared.records.Event.TheVariants.{Interrupted}
@@ -120,7 +120,3 @@ spells_by read seed entries gate at len None new behind shut same = tt
 spells_by read seed entries gate at len (Some before) None behind shut same = absurd same
 spells_by read seed entries gate at len (Some before) (Some after) behind shut same =
     subst (λ (l : List ℕ). Spells seed entries l) same (read seed entries gate at len after behind shut)
-
-pub ok_both : {A E : Type 0} {P Q R : A → Type 0} → (r : Result A E) → ((x : A) → P x → Q x → R x) → IfOk r P → IfOk r Q → IfOk r R
-ok_both (Ok value) f h k = f value h k
-ok_both (Err fault) f h k = tt

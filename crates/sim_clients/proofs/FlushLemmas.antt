@@ -1,5 +1,5 @@
 -- What a client that was asked to send answers.
-use Rattle.std.proofs.Common.{◌≡◌, ℕ, Bool, true, false, if◌then◌else◌, Some, None, List, [], ◌∷◌, refl, ap, sym, ◌∙◌}
+use Rattle.std.proofs.Common.{◌≡◌, ℕ, Bool, true, false, if◌then◌else◌, Some, List, [], ◌∷◌, refl, ap, sym, ◌∙◌}
 use Rattle.std.specs.Prelude.{nat_lt}
 use Rattle.std.proofs.lemmas.Bool.{true≢false}
 use Rattle.auth_keys.specs.declared.ring.RingKey.{RingKey}
@@ -13,7 +13,6 @@ use Rattle.client_rules.specs.Sending.{Packet, Setting}
 use Rattle.client_core.specs.Flushed.{Flushes, TellsFlush}
 use Rattle.client_core.specs.Kept.{Contents, Stands}
 use Rattle.client_core.specs.declared.flush.Flush.TheVariants as flushed
-use Rattle.world_rules.specs.Refusals.{NumbersSpent, unsent}
 use Rattle.sim_clients.specs.Told.{TellsSent}
 
 -- ---- the session number of a packet
@@ -68,25 +67,3 @@ sent_so setting lock keys now session bytes old new client draw drawn was flushe
     sent_by lock keys session bytes (flush setting now client draw).answer
     (λ packet is. own ∙ sym (packet_session setting now client draw packet is ∙ session_kept old new client (flush setting now client draw).client was flushes.leaves.0 same))
     flushes.told
-
--- ---- what it answers
-
-pub nothing_sent : (lock : Lock) (keys : List RingKey) (answer : Answer) → TellsFlush lock keys answer flushed.Nothing → TellsSent lock keys answer None
-nothing_sent lock keys Nothing told = tt
-nothing_sent lock keys Spent told = told
-nothing_sent lock keys (Sends packet) told = told
-
-pub unsent_packet : (lock : Lock) (keys : List RingKey) (bytes : List ℕ) (answer : Answer) → TellsFlush lock keys answer (flushed.Packet bytes) → unsent answer ≡ None
-unsent_packet lock keys bytes Nothing told = refl
-unsent_packet lock keys bytes Spent told = absurd told
-unsent_packet lock keys bytes (Sends packet) told = refl
-
-pub unsent_nothing : (lock : Lock) (keys : List RingKey) (answer : Answer) → TellsFlush lock keys answer flushed.Nothing → unsent answer ≡ None
-unsent_nothing lock keys Nothing told = refl
-unsent_nothing lock keys Spent told = absurd told
-unsent_nothing lock keys (Sends packet) told = refl
-
-pub unsent_spent : (lock : Lock) (keys : List RingKey) (answer : Answer) → TellsFlush lock keys answer flushed.Spent → unsent answer ≡ Some NumbersSpent
-unsent_spent lock keys Nothing told = absurd told
-unsent_spent lock keys Spent told = refl
-unsent_spent lock keys (Sends packet) told = absurd told

@@ -86,10 +86,6 @@ all_set P place [] now all new = tt
 all_set P zero (x ∷ xs) now all new = (new, all.1)
 all_set P (suc place) (x ∷ xs) now all new = (all.0, all_set P place xs now all.1 new)
 
-pub all_joined : {K : Type 0} (P : K → Type 0) (kept : List K) (now : K) → AllByRecursion P kept → P now → AllByRecursion P (kept ++ now ∷ [])
-all_joined P [] now all new = (new, tt)
-all_joined P (x ∷ xs) now all new = (all.0, all_joined P xs now all.1 new)
-
 pub all_mapped : {K : Type 0} (P : K → Type 0) (change : K → K) (kept : List K) → ((k : K) → P k → P (change k)) → AllByRecursion P kept → AllByRecursion P (map change kept)
 all_mapped P change [] each all = tt
 all_mapped P change (x ∷ xs) each all = (each x all.0, all_mapped P change xs each all.1)

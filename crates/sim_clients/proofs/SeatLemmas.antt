@@ -22,7 +22,7 @@ use Rattle.sim_clients.specs.Standing.{Becomes, HaveKeys, HasKeysOf, KeepKeys, K
 use Rattle.sim_clients.specs.Told.{TellsRefusal}
 use Rattle.sim_clients.specs.declared.fault.SeatFault.{SeatFault}
 use Rattle.sim_clients.specs.declared.fault.SeatFault.TheVariants as fault
-use Rattle.sim_clients.proofs.PlaceLemmas.{all_at, all_joined, all_set, at_place, changed, joined, kept, of_seat, zip_count}
+use Rattle.sim_clients.proofs.PlaceLemmas.{all_at, all_set, at_place, changed, joined, kept, of_seat, zip_count}
 
 -- ---- one seat
 
@@ -126,10 +126,6 @@ pub if_ok : {X E : Type 0} (r : Result X E) (P Q : X → Type 0) → ((x : X) �
 if_ok (Ok x) P Q next holds = next x holds
 if_ok (Err e) P Q next holds = tt
 
-pub on_err : {X E : Type 0} (r : Result X E) (P Q : Type 0) → (P → Q) → OnErr r P → OnErr r Q
-on_err (Ok x) P Q next holds = tt
-on_err (Err e) P Q next holds = next holds
-
 -- ---- a clock, bytes that come down, and keys
 
 pub set_at : (time : ℕ) (c place : ℕ) (kept items : List Kept) (seats : List Seat) (one now : Kept)
@@ -183,9 +179,6 @@ pub joins_at : (kept items : List Kept) (seats : List Seat) (now : Kept) (client
 joins_at kept items seats now client is clock all stands =
     subst (λ list. Stand list (seats ++ record { client = client; clock = 0 } ∷ [])) (sym is)
     (joined StandsFor kept seats now (record { client = client; clock = 0 }) all (record { client = stands; clock = clock }))
-
-pub keys_joined : (ring : List RingKey) (kept items : List Kept) (now : Kept) → items ≡ kept ++ now ∷ [] → HaveKeys ring kept → HasKeysOf ring now → HaveKeys ring items
-keys_joined ring kept items now is all has = subst (λ list. HaveKeys ring list) (sym is) (all_joined (HasKeysOf ring) kept now all has)
 
 pub refused_memory : {X : Type 0} (due : Option Refusal) (r : Result X SeatFault) → IsErrAnd r (λ one. one ≡ fault.Memory) → due ≡ None → TellsRefusal due r
 refused_memory {X} due (Ok x) is none = none

@@ -1,17 +1,14 @@
 -- What an event leaves, by its parts.
-use Rattle.std.proofs.Common.{◌≡◌, ℕ, List, Option, Some, None, Ok, Err, refl, sym, subst}
+use Rattle.std.proofs.Common.{◌≡◌, ℕ, List, Option, None, Ok, Err, refl, sym, subst}
 use Rattle.client_core.specs.declared.fault.SubmitFault.TheVariants as submit
-use Rattle.client_rules.specs.Client.{Client}
 use Rattle.sched_text.specs.declared.event.Event.{Event}
-use Rattle.sim_clients.specs.Standing.{Becomes, Kept, Stand}
 use Rattle.sim_clients.specs.Told.{TellsRefusal}
 use Rattle.sim_clients.specs.declared.fault.SeatFault.{SeatFault}
 use Rattle.sim_clients.specs.declared.fault.SeatFault.TheVariants as seat
-use Rattle.world_rules.specs.Ends.{seat_changed, seated, with_seat}
-use Rattle.world_rules.specs.Refusals.{Refusal, NoClient, at_client, refusal}
+use Rattle.world_rules.specs.Refusals.{Refusal, NoClient, refusal}
 use Rattle.world_rules.specs.Run as run
 use Rattle.world_rules.specs.Setting.{Setting}
-use Rattle.world_rules.specs.World.{Seat, World as Rules, counted}
+use Rattle.world_rules.specs.World.{Seat, World as Rules}
 use Rattle.sim_server.specs.Hosts.{Host, Stays, Stands as HostStands}
 use Rattle.sim_world.specs.Told.{Steps, Tells, step_fault}
 use Rattle.sim_world.specs.Worlds.{Stands, World}
@@ -85,43 +82,6 @@ pub stays-stands : {S V D : Type 0} (setting : Setting D V) (before after : Host
     → Stays before after → HostStands setting before draw world → HostStands setting after draw world
 stays-stands setting before after draw world stays stands =
     subst (λ host. HostStands setting host draw world) (sym stays) (with-room setting before after.room draw world stands)
-
--- where it was refused, the world stands for what it stood for but for the draw
-pub kept-stands : {S V D : Type 0} (setting : Setting D V) (before after : Host S V) (old draw : D) (seats left : List Kept) (world : Rules D V)
-    → Stands setting (record { host = before; seats = seats; draw = old }) world → Stays before after → Stand left world.seats
-    → Stands setting (record { host = after; seats = left; draw = draw }) (record world { draw = draw })
-kept-stands setting before after old draw seats left world stands stays keeps =
-    record {
-      host = redrawn setting after old draw world (stays-stands setting before after old world stays stands.host);
-      seats = keeps;
-    }
-
--- ---- events of clients
-
-wished-at : {S V D : Type 0} (setting : Setting D V) (number : ℕ) (act : Seat → Rules D V → Rules D V) (rest : Seat → Option Refusal) (change : Seat → Client)
-    (host : Host S V) (old draw : D) (before after : List Kept) (world : Rules D V) (there : Option Seat) → counted number world.seats ≡ there
-    → at_client there rest ≡ None → Becomes number change before after → Stands setting (record { host = host; seats = before; draw = old }) world
-    → ((one : Seat) → act one world ≡ record world { seats = seat_changed number (change one) world.seats; draw = draw })
-    → Stands setting (record { host = host; seats = after; draw = draw }) (seated there act world)
-wished-at setting number act rest change host old draw before after world None is free becomes stands acts =
-    absurd (let no : Some NoClient ≡ None = free in cc)
-wished-at setting number act rest change host old draw before after world (Some one) is free becomes stands acts =
-    let seats = seat_changed number (change one) world.seats in
-    subst (λ w. Stands setting (record { host = host; seats = after; draw = draw }) w) (sym (acts one))
-    (record {
-      host = redrawn setting host old draw (record world { seats = seats }) (reseated setting host old seats world stands.host);
-      seats = becomes world.seats one stands.seats is;
-    })
-
--- where nothing refuses it, the client of this number becomes so
-pub wished : {S V D : Type 0} (setting : Setting D V) (number : ℕ) (act : Seat → Rules D V → Rules D V) (rest : Seat → Option Refusal) (change : Seat → Client)
-    (host : Host S V) (old draw : D) (before after : List Kept) (world : Rules D V)
-    → at_client (counted number world.seats) rest ≡ None → Becomes number change before after
-    → Stands setting (record { host = host; seats = before; draw = old }) world
-    → ((one : Seat) → act one world ≡ record world { seats = seat_changed number (change one) world.seats; draw = draw })
-    → Stands setting (record { host = host; seats = after; draw = draw }) (with_seat number act world)
-wished setting number act rest change host old draw before after world free becomes stands acts =
-    wished-at setting number act rest change host old draw before after world (counted number world.seats) refl free becomes stands acts
 
 -- ---- the whole event
 

@@ -1,4 +1,4 @@
-//! Names of sessions.
+//! The name of a session.
 
 /// What names a session of a server: the identifier of its key, and its number under that key.
 #[derive(Clone, Copy, Debug, PartialEq, Eq)]
