@@ -13,11 +13,12 @@ use crate::disk_len::DiskLen;
 use mt_edge::{Act, raised};
 use octets::{Buffer, Memory, Octets};
 use std::alloc::Global;
+use std::fmt;
 
 /// A file in memory. The calls of the given numbers fail, counted together from 1, and so does each one that passes a room
 /// or an end. It keeps a record of all calls that it has room for. A write or a cut that fails by its number is an act too,
-/// as one that may have been done in part, and changes nothing that a read gives.
-#[derive(Debug, Drop)]
+/// as one that may have been done in part, and changes nothing that a read gives. Its text by `Debug` has no byte of it.
+#[derive(Drop)]
 pub struct MemDisk {
     first: Octets,
     contents: Vec<u8>,
@@ -36,6 +37,15 @@ pub struct MemDisk {
     ghost calls_in_room: { vec_len recorded ≤ calls_room },
     ghost calls_taken: { calls_room ≤ vec_capacity recorded },
     ghost possible: { MayLeave (after_acts (synced_at first) acts.items) contents.items },
+}
+
+impl fmt::Debug for MemDisk {
+    /// The length alone: a journal has its seed among its bytes.
+    fn fmt<W: fmt::Write>(&self, f: &mut fmt::Formatter<W>) -> fmt::Result {
+        f.debug_struct("MemDisk")
+            .field("len", &self.contents.len())
+            .finish_non_exhaustive()
+    }
 }
 
 impl MemDisk {

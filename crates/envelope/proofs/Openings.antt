@@ -18,8 +18,8 @@ use Rattle.envelope.specs.Opening.{Opens, IsRefused, IsPacketSize, IsGoodKey, Ha
 use Rattle.envelope.specs.Answers.{IfEnvelope, IfRefused}
 use Rattle.envelope.specs.Lawful.{OpensWhatItSealed}
 use Rattle.envelope.specs.Lock.{IsLock, LocksAgain, ByteLaws}
-use Rattle.envelope.specs.Reading.{envelope_in, IsWhole, IsPlainRefused}
-use Rattle.envelope.proofs.PlainTexts.{length-plain_text, HasBytes-plain_text, envelope_in-plain_text, plain_text-envelope_in, long_in_front, length_said-plain_text}
+use Rattle.envelope.specs.Reading.{envelope_in, IsWhole, IsPlainRefused, ReadsBack}
+use Rattle.envelope.proofs.PlainTexts.{length-plain_text, HasBytes-plain_text, envelope_in-plain_text, padding-plain_text, plain_text-envelope_in, long_in_front, length_said-plain_text}
 
 -- what is read of a packet that was sealed
 pub record SealedParts (lock : Lock) (dir : Dir) (entry : RingKey) (envelope : Envelope) (padding packet : List ℕ) : Type 0 where
@@ -61,6 +61,17 @@ sealed_parts lock is laws ring dir envelope padding packet sealed =
       plain = ap (λ m. lock.unlocked key dir m (text_of packet)) said ∙ ap (λ t. lock.unlocked key dir message_key t) text_is
           ∙ is.unlocked_again key dir message_key plain blocks whole;
     }
+
+pub reads_back : (lock : Lock) → IsLock lock → ByteLaws → ReadsBack lock
+reads_back lock is laws = record {
+  named = λ ring dir envelope padding packet sealed. (sealed_parts lock is laws ring dir envelope padding packet sealed).named;
+  envelope = λ ring dir envelope padding packet sealed.
+      let a = sealed_parts lock is laws ring dir envelope padding packet sealed in
+      ap (envelope_in envelope.key) a.plain ∙ envelope_in-plain_text envelope padding sealed.lawful a.short;
+  padding = λ ring dir envelope padding packet sealed plain plain_is.
+      let a = sealed_parts lock is laws ring dir envelope padding packet sealed in
+      ap (λ (l : List ℕ). drop (length_said l) (drop 32 l)) (plain_is ∙ a.plain) ∙ padding-plain_text envelope padding a.short;
+}
 
 -- ---- one envelope
 

@@ -1,6 +1,6 @@
 -- Plain texts: how long they are, and that they spell one envelope.
 use Rattle.std.proofs.Common.{◌≡◌, ℕ, zero, suc, ◌<◌, ◌≤◌, ◌+◌, ◌-◌, ◌*◌, ◌/◌, ◌^◌, List, ◌++◌, length, take, drop, refl, sym, ap, ◌∙◌, drop-drop, arith, length-append, length-drop}
-use Rattle.std.proofs.lemmas.List.{append_assoc, drop-append-le, take_at, take-append-drop, length-take-le}
+use Rattle.std.proofs.lemmas.List.{append_assoc, drop-append-le, drop_at, take_at, take-append-drop, length-take-le}
 use Rattle.std.proofs.lemmas.Nat.{le_bytes_4, le_bytes_8}
 use Rattle.std.specs.Int.{byte_at, bytes_low_first, from_le_bytes, w32, w64}
 use Rattle.byteorder.specs.Endian.{little_bytes, little_number}
@@ -90,6 +90,14 @@ envelope_in-plain_text envelope padding lawful short =
     (little_number-reads_back 8 envelope.number (seq ++ (size ++ (body ++ padding))) lawful.number)
     (little_number-reads_back 4 envelope.seq (size ++ (body ++ padding)) lawful.seq)
     body_is
+
+-- its padding is that behind the body
+pub padding-plain_text : (envelope : Envelope) (padding : List ℕ) → length envelope.body < 2 ^ 32
+    → drop (length_said (plain_text envelope padding)) (drop 32 (plain_text envelope padding)) ≡ padding
+unfolding plain_text
+padding-plain_text envelope padding short =
+    let said = length_said-plain_text envelope padding short in
+    ap (λ (n : ℕ). drop n (envelope.body ++ padding)) said ∙ drop_at envelope.body padding (length envelope.body) refl
 
 -- ---- a plain text is that of the envelope that it spells
 

@@ -12,10 +12,10 @@ ghost use Rattle.envelope.specs.Lawful.{OpensWhatItSealed};
 ghost use Rattle.envelope.specs.Lock.{LocksAgain, clear_lock, mt_lock};
 ghost use Rattle.envelope.specs.Opening.{HasPlain, IsRefused, Opens, key_named};
 ghost use Rattle.envelope.specs.Packet.{IsEnvelope, IsPadding, Lock, Sealed, body_max, block_bytes, least_padding, packet_max, packet_min, packet_of, padding_max, padding_min, plain_head};
-ghost use Rattle.envelope.specs.Reading.{IsWhole, envelope_in};
+ghost use Rattle.envelope.specs.Reading.{IsWhole, ReadsBack, envelope_in};
 ghost use Rattle.envelope.specs.Sizes.{KeepsSizes};
 
-use crate::cipher::{Cipher, ClearCipher, byte_laws};
+use crate::cipher::{Cipher, ClearCipher, MtCipher, byte_laws};
 use crate::limits::{
     BODY_BYTES_MAX, PACKET_BYTES_MAX, PACKET_BYTES_MIN, PADDING_BYTES_MAX, PADDING_BYTES_MIN,
 };
@@ -89,5 +89,16 @@ pub fn whole_plain_texts_open()
         → length plain ≡ length packet - 24 → HasPlain lock ring now dir packet plain → IsWhole plain
         → Opens lock ring now dir packet (envelope_in (key_named packet) plain) }
 {
+    byte_laws();
+}
+
+/// A packet that was sealed, by the seal of the protocol or by the one without a cipher, is read back: it names the envelope's
+/// key, and its text spells the envelope and the padding.
+pub fn sealed_packets_are_read_back()
+    ensures of_the_protocol { ReadsBack mt_lock }
+    ensures clear { ReadsBack clear_lock }
+{
+    MtCipher::lawful();
+    ClearCipher::lawful();
     byte_laws();
 }

@@ -17,7 +17,7 @@ use crate::server_exports::{
 };
 use crate::server_handle::{ServerHandle, ServerSlot};
 use kifzaro::{Client, Server};
-use std::alloc::Global;
+use std::alloc::{AllocError, Global};
 use std::test::Fail;
 use test_asserts::same_text;
 use test_keys::{KEY_ID, line};
@@ -60,12 +60,17 @@ struct Seen {
     ready: u64,
 }
 
+/// So many bytes that are the same. No contract says how many, as a long list with a known length is computed by all that looks at it.
+fn same_bytes(alloc: Global, byte: u8, count: usize) -> Result<Vec<u8>, AllocError> {
+    Vec::from_elem(alloc, byte, count)
+}
+
 fn nothing_seen(alloc: Global) -> Result<Seen, Fail> {
     Ok(Seen {
-        long: Vec::from_elem(alloc, 0, 262_148)?,
-        packet: Vec::from_elem(alloc, BLANK, 4096)?,
+        long: same_bytes(alloc, 0, 262_148)?,
+        packet: same_bytes(alloc, BLANK, 4096)?,
         packet_len: 0,
-        room: Vec::from_elem(alloc, BLANK, 4096)?,
+        room: same_bytes(alloc, BLANK, 4096)?,
         len: u64::from(UNTOUCHED),
         call: u64::from(UNTOUCHED),
         state: UNTOUCHED,

@@ -37,7 +37,7 @@ impl ListClock {
 impl Clock for ListClock {
     ghost given = { λ clock. if nat_lt clock.given (2 ^ 64 - 1) then Some (first_given clock.moments.items clock.given) else None };
 
-    #[tactic(auto, using(crate::proofs::ClockLemmas::one_more_given))]
+    #[tactic(auto, using(crate::proofs::ClockLemmas::one_more_given, crate::proofs::ClockLemmas::count_of_given))]
     fn now(&mut self) -> Moment {
         let last = self.moments.len() - 1;
         let place = self.given.min(last);

@@ -34,20 +34,34 @@ fn step_words() -> Result<(), Fail> {
 // of block 1 of a key that ends in 1, and of block 2 of a key whose second byte is 0xff.
 #[test]
 fn chacha_words() -> Result<(), Fail> {
-    let mut draw: ChaChaDraw = Seeded::at(&[0; 32], 0);
-    gives(&mut draw, &[0x903d_f1a0_ade0_b876, 0x28bd_8653_e56a_5d40])?;
-    same(draw.place(), 2)?;
-    let mut draw: ChaChaDraw = Seeded::at(&[0; 32], 8);
-    gives(&mut draw, &[0x7a38_5155_bee7_079f, 0x0d08_2d73_7c97_ba98])?;
+    let first = [0x903d_f1a0_ade0_b876, 0x28bd_8653_e56a_5d40];
+    same(place_behind(&[0; 32], 0, &first)?, 2)?;
+    let second = [0x7a38_5155_bee7_079f, 0x0d08_2d73_7c97_ba98];
+    same(place_behind(&[0; 32], 8, &second)?, 10)
+}
+
+#[test]
+fn chacha_words_of_other_seeds() -> Result<(), Fail> {
+    let third = [0x9249_f8ec_2452_eb3a, 0xddd4_ceb1_8d82_9d9b];
+    same(place_behind(&with_byte(31, 1), 8, &third)?, 10)?;
+    let fourth = [0x4bc4_2ef1_fb4d_d572, 0x327f_1394_df92_2636];
+    same(place_behind(&with_byte(1, 0xff), 16, &fourth)?, 18)
+}
+
+// A seed of zeros but for this byte.
+fn with_byte(place: usize, byte: u8) -> [u8; 32] {
     let mut seed = [0; 32];
-    seed[31] = 1;
-    let mut draw: ChaChaDraw = Seeded::at(&seed, 8);
-    gives(&mut draw, &[0x9249_f8ec_2452_eb3a, 0xddd4_ceb1_8d82_9d9b])?;
-    let mut seed = [0; 32];
-    seed[1] = 0xff;
-    let mut draw: ChaChaDraw = Seeded::at(&seed, 16);
-    gives(&mut draw, &[0x4bc4_2ef1_fb4d_d572, 0x327f_1394_df92_2636])?;
-    Ok(())
+    if let Some(it) = seed.get_mut(place) {
+        *it = byte;
+    }
+    seed
+}
+
+// The words from a place of a seed's on are these; the place behind them.
+fn place_behind(seed: &[u8; 32], place: u64, words: &[u64]) -> Result<u64, Fail> {
+    let mut draw: ChaChaDraw = Seeded::at(seed, place);
+    gives(&mut draw, words)?;
+    Ok(draw.place())
 }
 
 // What a sender does: it draws a number, and then a nonce.
@@ -85,7 +99,10 @@ fn bytes_of_words() -> Result<(), Fail> {
             0x5a, 0xfe, 0x2a, 0x99, 0x5a, 0xe8, 0xa3, 0xb0, 0x87, 0x7d, 0xc0, 0xe5,
         ],
     )?;
-    same(draw.place(), 3)?;
-    holds(drawn_again::<ChaChaDraw>(&[1; 32]))?;
-    Ok(())
+    same(draw.place(), 3)
+}
+
+#[test]
+fn words_are_drawn_again() -> Result<(), Fail> {
+    holds(drawn_again::<ChaChaDraw>(&[1; 32]))
 }

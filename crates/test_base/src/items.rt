@@ -1,6 +1,6 @@
 //! Service items: one body of each constructor, worked out from the standard's schema, and bodies that are none.
 
-ghost use Rattle.std.specs.Prelude.{◌≡◌, ◌++◌, ◌∷◌, [], IfOk, IfSome, None};
+ghost use Rattle.std.specs.Prelude.{◌≡◌, ◌++◌, ◌∷◌, [], IfOk, IfSome, None, OnOk, length};
 ghost use Rattle.service_tl.specs.declared.item.Item.TheVariants.{MsgsAck, Pong};
 ghost use Rattle.service_tl.specs.Items.{spelling_of, IsWritable, IsOfSchema};
 ghost use Rattle.service_tl.specs.ItemOf.{item_of};
@@ -29,13 +29,34 @@ fn spelt_anew(alloc: Global, body: &[u8]) -> Result<Option<Octets>, Memory>
     ensures other { IfOk result (λ anew. anew ≡ None → IsOfSchema (item_of body.now) → ⊥) }
 {
     let item = parse(alloc, body)?;
+    let anew = spelling(alloc, &item);
+    drop(item);
+    anew
+}
+
+// An item in the writer's spelling, where it is one of the schema, which a writer takes.
+fn spelling(alloc: Global, item: &Item) -> Result<Option<Octets>, Memory>
+    requires { IsOfSchema item.now → IsWritable item.now }
+    ensures said { IfOk result (λ anew. IfSome anew (λ text. item_of text ≡ item.now)) }
+    ensures other { IfOk result (λ anew. anew ≡ None → IsOfSchema item.now → ⊥) }
+{
     if !item.is_of_schema() {
         return Ok(None);
     }
     let mut text = Octets::new(alloc);
-    write(alloc, &item, &mut text)?;
+    write(alloc, item, &mut text)?;
     items_again();
     Ok(Some(text))
+}
+
+// An item is written behind a text, and let go of at one place.
+fn add(alloc: Global, item: Item, text: &mut Octets) -> Result<(), Memory>
+    requires { IsWritable item }
+    ensures { OnOk result (text.new ≡ text.old ++ spelling_of item) }
+{
+    let written = write(alloc, &item, text);
+    drop(item);
+    written
 }
 
 // An item that the caller makes is written with no word of the schema.
@@ -44,9 +65,9 @@ fn ack_and_pong(alloc: Global, number: u64, ping_id: u64) -> Result<Octets, Memo
 {
     let mut text = Octets::new(alloc);
     let msg_ids = IdList::copy(alloc, &[number])?;
-    write(alloc, &Item::MsgsAck { msg_ids }, &mut text)?;
+    add(alloc, Item::MsgsAck { msg_ids }, &mut text)?;
     let msg_id = number;
-    write(alloc, &Item::Pong { msg_id, ping_id }, &mut text)?;
+    add(alloc, Item::Pong { msg_id, ping_id }, &mut text)?;
     Ok(text)
 }
 
@@ -54,15 +75,24 @@ fn is_shown(alloc: Global, item: &Item, want: &str) -> Result<bool, Memory> {
     Ok(shown(alloc, item)?.as_str() == want)
 }
 
-// Whether a body is read as the item that is shown so, and that item is written as the body.
-fn agrees(alloc: Global, body: &[u8], want: &str) -> Result<bool, Memory> {
-    let item = parse(alloc, body)?;
-    if !item.is_of_schema() || !is_shown(alloc, &item, want)? {
+// Whether an item is shown so, and is written as this body.
+fn is_of(alloc: Global, item: &Item, body: &[u8], want: &str) -> Result<bool, Memory>
+    requires { IsOfSchema item.now → IsWritable item.now }
+{
+    if !item.is_of_schema() || !is_shown(alloc, item, want)? {
         return Ok(false);
     }
     let mut written = Octets::new(alloc);
-    write(alloc, &item, &mut written)?;
+    write(alloc, item, &mut written)?;
     Ok(written.as_slice() == body)
+}
+
+// Whether a body is read as the item that is shown so, and that item is written as the body.
+fn agrees(alloc: Global, body: &[u8], want: &str) -> Result<bool, Memory> {
+    let item = parse(alloc, body)?;
+    let agrees = is_of(alloc, &item, body, want);
+    drop(item);
+    agrees
 }
 
 // A body's hexadecimal digits, and the item that it is, as `{:?}` shows it.
@@ -132,7 +162,10 @@ dcf8f17302000000080000000000000001000000040000000a0b0c0d Broken(1945237724)\n\
 fn is_read(alloc: Global, row: &str) -> Result<(), Fail> {
     let (digits, want) = row.split_once(' ').ok_or("digits and an item")?;
     let body = hex::decode(alloc, digits).ok().ok_or("hexadecimal digits")?;
-    shows(alloc, &parse(alloc, &body)?, want)
+    let item = parse(alloc, &body)?;
+    let shown = shows(alloc, &item, want);
+    drop(item);
+    shown
 }
 
 #[test]
@@ -153,9 +186,13 @@ fn service_numbers_are_told() -> Result<(), Fail> {
 #[test]
 fn what_was_written_is_parsed(rt: HostRuntime) -> Result<(), Fail> {
     let alloc = rt.alloc();
-    let again = written_and_parsed(alloc, &Item::Ping { ping_id: 7 })?;
-    holds(is_shown(alloc, &again, "Ping { ping_id: 7 }")?)?;
-    Ok(())
+    let item = Item::Ping { ping_id: 7 };
+    let again = written_and_parsed(alloc, &item);
+    drop(item);
+    let again = again?;
+    let shown = shows(alloc, &again, "Ping { ping_id: 7 }");
+    drop(again);
+    shown
 }
 
 #[test]
@@ -192,7 +229,7 @@ fn other_spellings_are_spelt_anew(rt: HostRuntime) -> Result<(), Fail> {
 }
 
 #[test]
-fn lists_are_cloned(rt: HostRuntime) -> Result<(), Fail> {
+fn salts_are_cloned(rt: HostRuntime) -> Result<(), Fail> {
     let alloc = rt.alloc();
     let mut salts = FutureSaltList::new(alloc);
     salts.push(
@@ -204,20 +241,43 @@ fn lists_are_cloned(rt: HostRuntime) -> Result<(), Fail> {
         },
     )?;
     let copy = salts.clone()?;
-    holds(copy.as_slice() == salts.as_slice())?;
-    let message = Message {
+    holds(copy.as_slice() == salts.as_slice())
+}
+
+// A message of the number 8, and how it is shown.
+fn message(alloc: Global) -> Result<Message, Memory>
+    ensures { IfOk result (λ message. length message.body ≡ 4) }
+{
+    Ok(Message {
         number: 8,
         seq: 1,
         body: Octets::copy(alloc, b"abcd")?,
-    };
-    let want = "Message { number: 8, seq: 1, body: Octets { bytes: [97, 98, 99, 100] } }";
-    shows(alloc, &message.clone()?, want)?;
+    })
+}
+
+const SHOWN: &str = "Message { number: 8, seq: 1, body: Octets { bytes: [97, 98, 99, 100] } }";
+
+#[test]
+fn a_message_is_cloned(rt: HostRuntime) -> Result<(), Fail> {
+    let message = message(rt.alloc())?;
+    let copy = message.clone()?;
+    shows(rt.alloc(), &copy, SHOWN)
+}
+
+#[test]
+fn messages_are_cloned(rt: HostRuntime) -> Result<(), Fail> {
+    let alloc = rt.alloc();
     let mut messages = Messages::with_capacity(alloc, 1)?;
-    messages.push(alloc, message)?;
+    messages.push(alloc, message(alloc)?)?;
     let copies = messages.clone()?;
-    for copy in copies.as_slice() {
-        shows(alloc, copy, want)?;
+    drop(messages);
+    are_shown(alloc, copies.as_slice())
+}
+
+// One message, that is shown so.
+fn are_shown(alloc: Global, messages: &[Message]) -> Result<(), Fail> {
+    for message in messages {
+        shows(alloc, message, SHOWN)?;
     }
-    same(copies.as_slice().len(), 1)?;
-    Ok(())
+    same(messages.len(), 1)
 }

@@ -123,18 +123,23 @@ fn values_are_read_again(rt: HostRuntime) -> Result<(), Fail> {
     filled(alloc, &mut text, 1, b"abcd", true)?;
     let bytes = b"\x01\0\0\0\x04abcd\0\0\0\xb5\x75\x72\x99";
     same(text.as_slice(), bytes.as_slice())?;
-    let mut reader = Reader::new(text.as_slice());
+    are_read(text.as_slice())
+}
+
+// The number 1, a name and a truth are read.
+fn are_read(text: &[u8]) -> Result<(), Fail> {
+    let mut reader = Reader::new(text);
     holds(number_or_name(&mut reader, 1) == Ok([].as_slice()))?;
     holds(number_or_name(&mut reader, 1) == Ok(b"abcd".as_slice()))?;
-    same(reader.boolean(), Ok(true))?;
+    same(reader.boolean(), Ok(true))
+}
+
+#[test]
+fn faults_are_told(rt: HostRuntime) -> Result<(), Fail> {
     let fault = TlFault::BadTag { found: 255 };
-    tells(
-        alloc,
-        &fault,
-        "constructor 000000ff is another than the one that is due",
-    )?;
-    tells(alloc, &TlFault::from(Memory), "out of memory")?;
-    Ok(())
+    let told = "constructor 000000ff is another than the one that is due";
+    tells(rt.alloc(), &fault, told)?;
+    tells(rt.alloc(), &TlFault::from(Memory), "out of memory")
 }
 
 // A constructor, a number and 16 bytes.
@@ -145,12 +150,15 @@ const FIELDS: &[u8] =
 fn fields_are_written_one_after_the_other(rt: HostRuntime) -> Result<(), Fail> {
     let alloc = rt.alloc();
     let mut text = Octets::new(alloc);
-    let mut writer = Writer::new(&mut text);
+    write_fields(alloc, &mut text)?;
+    same(text.as_slice(), FIELDS)
+}
+
+fn write_fields(alloc: Global, text: &mut Octets) -> Result<(), Memory> {
+    let mut writer = Writer::new(text);
     writer.tag(alloc, 0x7abe77ec)?;
     writer.long(alloc, 0x0807060504030201)?;
-    writer.raw(alloc, &[9; 16])?;
-    same(text.as_slice(), FIELDS)?;
-    Ok(())
+    writer.raw(alloc, &[9; 16])
 }
 
 #[test]

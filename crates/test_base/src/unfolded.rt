@@ -16,7 +16,7 @@ use octets::{Memory, Octets};
 use std::alloc::Global;
 use std::marker::Model;
 use std::test::*;
-use test_asserts::{holds, same, shown, shows, tells};
+use test_asserts::{holds, holds_at, same, shown, shows, tells};
 
 // Where and why the container in message 100 isn't lawful.
 fn fault_of(alloc: Global, body: &[u8]) -> Result<Option<(u32, Why)>, Memory> {
@@ -121,45 +121,32 @@ impl Packer {
     }
 }
 
+// The digits of a container in message 100, and where and why it isn't lawful.
+const FAULTS: &str = "\
+dcf8f173 Some((0, Short))\n\
+dcf8f17300000000 None\n\
+dcf8f173fd030000 Some((0, TooMany))\n\
+dcf8f17301000000040000000000000001000000000000 Some((0, Short))\n\
+dcf8f1730100000004000000000000000100000003000000 Some((0, Odd))\n\
+dcf8f1730100000004000000000000000100000004000000 Some((0, Short))\n\
+dcf8f1730100000064000000000000000100000000000000 Some((0, NotBelow))\n\
+dcf8f1730100000004000000000000000000000008000000dcf8f17300000000 Some((0, Nested))\n\
+dcf8f173010000000400000000000000010000000000000000000000 Some((1, Extra))\n\
+dcf8f173020000000400000000000000010000000000000064000000000000000100000000000000 Some((1, NotBelow))\n";
+
+// The container of a row has the fault that the row says.
+fn has_fault(alloc: Global, row: &str) -> Result<(), Fail> {
+    let (digits, want) = row.split_once(' ').ok_or("digits and a fault")?;
+    let body = hex::decode(alloc, digits).ok().ok_or("hexadecimal digits")?;
+    holds_at(row, is_container(body.as_slice()))?;
+    shows(alloc, &fault_of(alloc, body.as_slice())?, want)
+}
+
 #[test]
 fn faults_have_their_places(rt: HostRuntime) -> Result<(), Fail> {
-    let rows: [(&[u8], Option<(u32, Why)>); 10] = [
-        (b"\xdc\xf8\xf1\x73", Some((0, Why::Short))),
-        (b"\xdc\xf8\xf1\x73\0\0\0\0", None),
-        (b"\xdc\xf8\xf1\x73\xfd\x03\0\0", Some((0, Why::TooMany))),
-        (
-            b"\xdc\xf8\xf1\x73\x01\0\0\0\x04\0\0\0\0\0\0\0\x01\0\0\0\0\0\0",
-            Some((0, Why::Short)),
-        ),
-        (
-            b"\xdc\xf8\xf1\x73\x01\0\0\0\x04\0\0\0\0\0\0\0\x01\0\0\0\x03\0\0\0",
-            Some((0, Why::Odd)),
-        ),
-        (
-            b"\xdc\xf8\xf1\x73\x01\0\0\0\x04\0\0\0\0\0\0\0\x01\0\0\0\x04\0\0\0",
-            Some((0, Why::Short)),
-        ),
-        (
-            b"\xdc\xf8\xf1\x73\x01\0\0\0\x64\0\0\0\0\0\0\0\x01\0\0\0\0\0\0\0",
-            Some((0, Why::NotBelow)),
-        ),
-        (
-            b"\xdc\xf8\xf1\x73\x01\0\0\0\x04\0\0\0\0\0\0\0\0\0\0\0\x08\0\0\0\xdc\xf8\xf1\x73\0\0\0\0",
-            Some((0, Why::Nested)),
-        ),
-        (
-            b"\xdc\xf8\xf1\x73\x01\0\0\0\x04\0\0\0\0\0\0\0\x01\0\0\0\0\0\0\0\0\0\0\0",
-            Some((1, Why::Extra)),
-        ),
-        (
-            b"\xdc\xf8\xf1\x73\x02\0\0\0\x04\0\0\0\0\0\0\0\x01\0\0\0\0\0\0\0\x64\0\0\0\0\0\0\0\x01\0\0\0\0\0\0\0",
-            Some((1, Why::NotBelow)),
-        ),
-    ];
-    let alloc = rt.alloc();
-    for (body, want) in rows {
-        holds(is_container(body))?;
-        same(fault_of(alloc, body)?, want)?;
+    same(FAULTS.lines().count(), 10)?;
+    for row in FAULTS.lines() {
+        has_fault(rt.alloc(), row)?;
     }
     Ok(())
 }
@@ -176,25 +163,50 @@ fn made(number: u64, seq: u32, body: Octets) -> Message {
     Message { number, seq, body }
 }
 
+// The container of these.
+const OF_TWO: &[u8] =
+    b"\xdc\xf8\xf1\x73\x02\0\0\0\x04\0\0\0\0\0\0\0\x01\0\0\0\x04\0\0\0abcd\x08\0\0\0\0\0\0\0\x02\0\0\0\0\0\0\0";
+
 #[test]
-fn two_are_put_together_and_unfolded(rt: HostRuntime) -> Result<(), Fail> {
+fn two_are_put_together(rt: HostRuntime) -> Result<(), Fail> {
     let alloc = rt.alloc();
     let messages = abcd_and_none(alloc)?;
+    let text = behind_dots(alloc, messages.as_slice());
+    drop(messages);
+    let text = text?;
+    same(
+        text.as_slice().split_at_checked(2),
+        Some((b"..".as_slice(), OF_TWO)),
+    )
+}
+
+// Two dots, and messages put together behind them.
+fn behind_dots(alloc: Global, messages: &[Message]) -> Result<Octets, Fail> {
     let mut text = Octets::copy(alloc, b"..")?;
-    holds(paired(alloc, messages.as_slice(), &mut text)?)?;
-    let want =
-        b"..\xdc\xf8\xf1\x73\x02\0\0\0\x04\0\0\0\0\0\0\0\x01\0\0\0\x04\0\0\0abcd\x08\0\0\0\0\0\0\0\x02\0\0\0\0\0\0\0";
-    same(text.as_slice(), want.as_slice())?;
-    let (_, body) = want.split_at(2);
-    holds(is_container(body))?;
-    match unfold(alloc, 12, body) {
-        Unfolded::Messages(inner) => {
-            let want = shown(alloc, &messages.as_slice())?;
-            shows(alloc, &inner.as_slice(), want.as_str())?;
-        }
-        Unfolded::Invalid { .. } | Unfolded::Memory => return Err(Fail::new("not unfolded")),
+    holds(paired(alloc, messages, &mut text)?)?;
+    Ok(text)
+}
+
+#[test]
+fn two_are_unfolded(rt: HostRuntime) -> Result<(), Fail> {
+    let alloc = rt.alloc();
+    let messages = abcd_and_none(alloc)?;
+    let want = shown(alloc, &messages.as_slice());
+    drop(messages);
+    let want = want?;
+    holds(is_container(OF_TWO))?;
+    let unfolded = unfold(alloc, 12, OF_TWO);
+    let done = are_in(alloc, &unfolded, want.as_str());
+    drop(unfolded);
+    done
+}
+
+// Messages that are shown so are what was unfolded.
+fn are_in(alloc: Global, unfolded: &Unfolded, want: &str) -> Result<(), Fail> {
+    match unfolded {
+        Unfolded::Messages(inner) => shows(alloc, &inner.as_slice(), want),
+        Unfolded::Invalid { .. } | Unfolded::Memory => Err(Fail::new("not unfolded")),
     }
-    Ok(())
 }
 
 // The seq of the first inner message, as a caller that copies nothing reads it.
@@ -228,30 +240,35 @@ fn paired(alloc: Global, pair: &[Message], into: &mut Octets) -> Result<bool, Me
     Ok(true)
 }
 
+// A message that is lent, and the container of it.
+const ABCD: Part<'static> = Part {
+    number: 4,
+    seq: 1,
+    body: b"abcd",
+};
+
+const OF_ABCD: &[u8] = b"\xdc\xf8\xf1\x73\x01\0\0\0\x04\0\0\0\0\0\0\0\x01\0\0\0\x04\0\0\0abcd";
+
 #[test]
 fn lent_messages_are_put_together(rt: HostRuntime) -> Result<(), Fail> {
-    let alloc = rt.alloc();
-    let body = b"\xdc\xf8\xf1\x73\x01\0\0\0\x04\0\0\0\0\0\0\0\x01\0\0\0\x04\0\0\0abcd";
-    let part = Part {
-        number: 4,
-        seq: 1,
-        body: b"abcd",
-    };
-    let mut text = Octets::new(alloc);
-    container_of_parts(alloc, &[part], &mut text)?;
-    same(text.as_slice(), body.as_slice())?;
-    holds(is_container(body))?;
-    let mut parts = Parts::read(8, body)?;
-    same(parts.len(), 1)?;
-    holds(parts.next() == Some(part))?;
-    holds(parts.is_empty())?;
-    holds(parts.next().is_none())?;
-    same(first_seq(8, body), Some(1))?;
-    Ok(())
+    let mut text = Octets::new(rt.alloc());
+    container_of_parts(rt.alloc(), &[ABCD], &mut text)?;
+    same(text.as_slice(), OF_ABCD)
 }
 
 #[test]
-fn limits_are_taken(rt: HostRuntime) -> Result<(), Fail> {
+fn lent_messages_are_read() -> Result<(), Fail> {
+    holds(is_container(OF_ABCD))?;
+    let mut parts = Parts::read(8, OF_ABCD)?;
+    same(parts.len(), 1)?;
+    holds(parts.next() == Some(ABCD))?;
+    holds(parts.is_empty())?;
+    holds(parts.next().is_none())?;
+    same(first_seq(8, OF_ABCD), Some(1))
+}
+
+#[test]
+fn limits_are_taken() -> Result<(), Fail> {
     let rows = [
         (1_019, 8, 0, true),
         (1_020, 8, 0, false),
@@ -262,17 +279,30 @@ fn limits_are_taken(rt: HostRuntime) -> Result<(), Fail> {
     for (count, bytes, next, want) in rows {
         same(fits(count, bytes, next), want)?;
     }
-    let alloc = rt.alloc();
+    Ok(())
+}
+
+// The body of a container of 1,020 messages without a body.
+fn many_messages(alloc: Global) -> Result<Octets, Memory> {
     let mut body = Octets::copy(alloc, b"\xdc\xf8\xf1\x73\xfc\x03\0\0")?;
     for _ in 0..1_020 {
         body.push_all(alloc, b"\x04\0\0\0\0\0\0\0\x01\0\0\0\0\0\0\0")?;
     }
+    Ok(body)
+}
+
+#[test]
+fn as_many_messages_as_may_be_are_unfolded(rt: HostRuntime) -> Result<(), Fail> {
+    let alloc = rt.alloc();
+    let body = many_messages(alloc)?;
     holds(is_container(body.as_slice()))?;
-    match unfold(alloc, 100, body.as_slice()) {
-        Unfolded::Messages(inner) => same(inner.as_slice().len(), 1_020)?,
-        Unfolded::Invalid { .. } | Unfolded::Memory => return Err(Fail::new("not unfolded")),
-    }
-    Ok(())
+    let unfolded = unfold(alloc, 100, body.as_slice());
+    let count = match &unfolded {
+        Unfolded::Messages(inner) => Some(inner.as_slice().len()),
+        Unfolded::Invalid { .. } | Unfolded::Memory => None,
+    };
+    drop(unfolded);
+    same(count, Some(1_020))
 }
 
 #[test]
@@ -339,21 +369,31 @@ fn list_is_unfolded_again(rt: HostRuntime) -> Result<(), Fail> {
     Ok(())
 }
 
-#[test]
-fn messages_are_packed_as_they_come(rt: HostRuntime) -> Result<(), Fail> {
-    let alloc = rt.alloc();
-    let mut packer = Packer::new(alloc);
+// Whether a message with this seq and no body is taken.
+fn is_taken(packer: &mut Packer, alloc: Global, seq: u32) -> Result<bool, Fail> {
+    let message = Message {
+        number: 4,
+        seq,
+        body: Octets::copy(alloc, b"")?,
+    };
+    holds(keeps_rules(100, &message))?;
+    Ok(packer.add(alloc, message)?)
+}
+
+// As many messages as may be are taken, and no more: the size of their container.
+fn packed(packer: &mut Packer, alloc: Global) -> Result<usize, Fail> {
     for seq in 0..1_021 {
-        let message = Message {
-            number: 4,
-            seq,
-            body: Octets::copy(alloc, b"")?,
-        };
-        holds(keeps_rules(100, &message))?;
-        holds(packer.add(alloc, message)? == (seq < 1_020))?;
+        holds(is_taken(packer, alloc, seq)? == (seq < 1_020))?;
     }
     let mut text = Octets::new(alloc);
     holds(packer.pack(alloc, &mut text)?)?;
-    same(text.as_slice().len(), 16_328)?;
-    Ok(())
+    Ok(text.as_slice().len())
+}
+
+#[test]
+fn messages_are_packed_as_they_come(rt: HostRuntime) -> Result<(), Fail> {
+    let mut packer = Packer::new(rt.alloc());
+    let size = packed(&mut packer, rt.alloc());
+    drop(packer);
+    same(size?, 16_328)
 }

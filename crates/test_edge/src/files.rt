@@ -10,7 +10,7 @@ use octets::Octets;
 use std::alloc::Global;
 use std::fs;
 use std::test::Fail;
-use test_asserts::{holds, same};
+use test_asserts::{holds, same, shown, shows};
 
 /// What a journal does: it adds bytes behind the end, and makes sure of them.
 fn add<K: Disk>(disk: &mut K, bytes: &[u8]) -> Act
@@ -46,13 +46,10 @@ fn loses(disk: &MemDisk, alloc: Global, acts: usize, want: &[u8]) -> Result<bool
     Ok(disk.lost(alloc, acts)?.as_slice() == want)
 }
 
-#[test]
-fn files_in_memory(rt: HostRuntime) -> Result<(), Fail> {
-    let alloc = rt.alloc();
-    let mut disk = MemDisk::new(alloc, b"ab", &[4, 8], 8, 8)?;
-    same(add(&mut disk, b"cd"), Act::Ready)?;
-    same(add(&mut disk, b"ef"), Act::Failed)?;
-    same(byte_at(&mut disk, 0), Some(b'a'))?;
+fn keeps_what_was_added(disk: &mut MemDisk, alloc: Global) -> Result<(), Fail> {
+    same(add(disk, b"cd"), Act::Ready)?;
+    same(add(disk, b"ef"), Act::Failed)?;
+    same(byte_at(disk, 0), Some(b'a'))?;
     same(
         (disk.contents(), disk.calls().last().copied(), disk.faults()),
         (
@@ -61,19 +58,50 @@ fn files_in_memory(rt: HostRuntime) -> Result<(), Fail> {
             1,
         ),
     )?;
-    holds(loses(&disk, alloc, 1, b"ab")? && loses(&disk, alloc, 2, b"abcd")?)?;
+    holds(loses(disk, alloc, 1, b"ab")? && loses(disk, alloc, 2, b"abcd")?)
+}
+
+#[test]
+fn files_in_memory(rt: HostRuntime) -> Result<(), Fail> {
+    let mut disk = MemDisk::new(rt.alloc(), b"ab", &[4, 8], 8, 8)?;
+    let done = keeps_what_was_added(&mut disk, rt.alloc());
+    drop(disk);
+    done
+}
+
+/// A file of this name and these contents, whose calls of these numbers fail.
+fn file(alloc: Global, name: &[u8], contents: &[u8], failing: &[u64]) -> Result<MemFile, Fail> {
+    let name = Octets::copy(alloc, name)?;
+    let disk = Some(MemDisk::new(alloc, contents, failing, 8, 8)?);
+    Ok(MemFile { name, disk })
+}
+
+#[test]
+fn files_in_memory_show_no_byte(rt: HostRuntime) -> Result<(), Fail> {
+    let alloc = rt.alloc();
+    let mut disk = MemDisk::new(alloc, b"kk", &[], 8, 8)?;
+    same(add(&mut disk, b"kkk"), Act::Ready)?;
+    shows(alloc, &disk, "MemDisk { len: 5, .. }")?;
+    shows(
+        alloc,
+        &disk.acts().first(),
+        "Some(Write { at: 2, count: 3 })",
+    )?;
+    shows(alloc, &disk.acts().last(), "Some(Sync { len: 5, .. })")?;
+    let name = Octets::copy(alloc, b"")?;
+    let file = MemFile {
+        name,
+        disk: Some(disk),
+    };
+    holds(!shown(alloc, &file)?.as_str().contains("107"))?;
     Ok(())
 }
 
 /// Two files in memory, the first of which fails its first call.
 fn two_files(alloc: Global) -> Result<MemDisks, Fail> {
     let mut files = Vec::new(alloc);
-    let name = Octets::copy(alloc, b"journal")?;
-    let disk = Some(MemDisk::new(alloc, b"", &[1], 8, 8)?);
-    files.push(MemFile { name, disk })?;
-    let name = Octets::copy(alloc, b"other")?;
-    let disk = Some(MemDisk::new(alloc, b"ab", &[], 8, 8)?);
-    files.push(MemFile { name, disk })?;
+    files.push(file(alloc, b"journal", b"", &[1])?)?;
+    files.push(file(alloc, b"other", b"ab", &[])?)?;
     Ok(MemDisks::new(alloc, files, &[], 8, 8)?)
 }
 
@@ -117,48 +145,79 @@ fn is_file(file: Option<&MemFile>, name: &[u8], contents: &[u8]) -> bool {
     }
 }
 
-#[test]
-fn files_in_memory_by_name(rt: HostRuntime) -> Result<(), Fail> {
-    let mut disks = two_files(rt.alloc())?;
+fn have_names(disks: &mut MemDisks) -> Result<(), Fail> {
     holds(
-        add_by_name(&mut disks, "journal", b"x") == Act::Failed
-            && add_by_name(&mut disks, "journal", b"y") == Act::Ready,
+        add_by_name(disks, "journal", b"x") == Act::Failed
+            && add_by_name(disks, "journal", b"y") == Act::Ready,
     )?;
     same(
         (
-            first_beside(&mut disks, "journal", "other"),
-            first_beside(&mut disks, "other", "other"),
+            first_beside(disks, "journal", "other"),
+            first_beside(disks, "other", "other"),
         ),
         (Some(b'y'), None),
     )?;
     holds(is_file(disks.files().first(), b"journal", b"y"))?;
-    same((disks.asked().len(), disks.faults()), (6, 2))?;
-    Ok(())
+    same((disks.asked().len(), disks.faults()), (6, 2))
+}
+
+#[test]
+fn files_in_memory_by_name(rt: HostRuntime) -> Result<(), Fail> {
+    let mut disks = two_files(rt.alloc())?;
+    let done = have_names(&mut disks);
+    drop(disks);
+    done
+}
+
+/// What is written of a file is there, and is cut.
+fn is_kept<K: Disk>(disk: &mut K) -> Result<(), Fail> {
+    same(add(disk, b"abc"), Act::Ready)?;
+    same((disk.cut(1), disk.len()), (Act::Ready, DiskLen::Len(1)))?;
+    same(
+        (disk.write(1, b"xyz"), byte_at(disk, 2)),
+        (Act::Ready, Some(b'y')),
+    )?;
+    same(
+        (byte_at(disk, 0), disk.len()),
+        (Some(b'a'), DiskLen::Len(4)),
+    )?;
+    same(disk.read(3, &mut [0u8; 2]), Act::Failed)
+}
+
+/// The same of the file of this name.
+fn keep<D: Disks>(disks: &mut D, name: &str) -> Result<(), Fail> {
+    match disks.open(name) {
+        DiskOpen::Disk(mut disk) => {
+            let kept = is_kept(&mut disk);
+            disks.done(disk);
+            kept
+        }
+        DiskOpen::Failed => Err("no file".into()),
+    }
+}
+
+/// Whether there is no file of this name.
+fn is_none<D: Disks>(disks: &mut D, name: &str) -> bool {
+    match disks.open(name) {
+        DiskOpen::Disk(disk) => {
+            disks.done(disk);
+            false
+        }
+        DiskOpen::Failed => true,
+    }
 }
 
 #[test]
 fn files_of_this_machine(rt: HostRuntime) -> Result<(), Fail> {
     let name = "disks_file.tmp";
     let mut disks = FileDisks::new(&rt);
-    let DiskOpen::Disk(mut disk) = disks.open(name) else {
-        return Err("no file".into());
-    };
-    same(add(&mut disk, b"abc"), Act::Ready)?;
-    same((disk.cut(1), disk.len()), (Act::Ready, DiskLen::Len(1)))?;
-    same(
-        (disk.write(1, b"xyz"), byte_at(&mut disk, 2)),
-        (Act::Ready, Some(b'y')),
-    )?;
-    same(
-        (byte_at(&mut disk, 0), disk.len()),
-        (Some(b'a'), DiskLen::Len(4)),
-    )?;
-    same(disk.read(3, &mut [0u8; 2]), Act::Failed)?;
-    disks.done(disk);
+    let kept = keep(&mut disks, name);
+    let is_none = is_none(&mut disks, "no_such_folder/file");
+    let faults = disks.faults();
+    drop(disks);
+    kept?;
     fs::remove_file(&rt, name)?;
-    holds(matches!(disks.open("no_such_folder/file"), DiskOpen::Failed))?;
-    same(disks.faults(), 2)?;
-    Ok(())
+    same((is_none, faults), (true, 2))
 }
 
 /// The bytes at the front of the file of this name, and how many it has.
@@ -184,16 +243,15 @@ fn front<D: Disks>(disks: &mut D, name: &str) -> Option<([u8; 4], u64)> {
 fn files_that_are_opened_again(rt: HostRuntime) -> Result<(), Fail> {
     let (first, second) = ("disks_first.tmp", "disks_second.tmp");
     let mut disks = FileDisks::new(&rt);
-    holds(
-        add_by_name(&mut disks, first, b"abc") == Act::Ready
-            && add_by_name(&mut disks, second, b"vwxyz") == Act::Ready
-            && add_by_name(&mut disks, first, b"d") == Act::Ready,
-    )?;
-    same(
-        (front(&mut disks, first), front(&mut disks, second)),
-        (Some((*b"abcd", 4)), Some((*b"vwxy", 5))),
-    )?;
+    let added = [
+        add_by_name(&mut disks, first, b"abc"),
+        add_by_name(&mut disks, second, b"vwxyz"),
+        add_by_name(&mut disks, first, b"d"),
+    ];
+    let fronts = (front(&mut disks, first), front(&mut disks, second));
+    drop(disks);
     fs::remove_file(&rt, first)?;
     fs::remove_file(&rt, second)?;
-    Ok(())
+    same(added, [Act::Ready, Act::Ready, Act::Ready])?;
+    same(fronts, (Some((*b"abcd", 4)), Some((*b"vwxy", 5))))
 }

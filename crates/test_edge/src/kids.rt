@@ -32,7 +32,7 @@ fn links_are_read_to_their_end(rt: HostRuntime) -> Result<(), Fail> {
 }
 
 /// These two words.
-fn words(alloc: Global, first: &str, second: &str) -> Result<Vec<String>, AllocError> {
+pub(crate) fn words(alloc: Global, first: &str, second: &str) -> Result<Vec<String>, AllocError> {
     let mut words = Vec::new(alloc);
     words.push(String::from_str(alloc, first)?)?;
     words.push(String::from_str(alloc, second)?)?;
@@ -56,7 +56,11 @@ fn kind_of(line: &Line) -> &'static str {
 }
 
 /// Starts a child, reads a line and waits: what each came to.
-fn life<P: Spawner>(kids: &mut P, alloc: Global, words: &[String]) -> (Act, &'static str, Act) {
+pub(crate) fn life<P: Spawner>(
+    kids: &mut P,
+    alloc: Global,
+    words: &[String],
+) -> (Act, &'static str, Act) {
     let started = kids.start(words);
     let line = kids.line(alloc);
     let ended = kids.wait();

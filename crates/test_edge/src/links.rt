@@ -11,10 +11,11 @@ use mt_edge::{
     TcpNet, WriteSink,
 };
 use octets::Octets;
+use std::alloc::Global;
 use std::fs;
 use std::io::{self, ErrorKind, Read, Write};
 use std::test::Fail;
-use test_asserts::{holds, same, shown, shows};
+use test_asserts::{holds, same, shown};
 
 /// What a node does: it reads once and writes once, and hands on what came of both.
 fn read_and_write<L: Link>(link: &mut L, into: &mut [u8], piece: &[u8]) -> (Got, Put)
@@ -44,10 +45,7 @@ fn take_and_give_back<N: Net>(net: &mut N) -> bool
     }
 }
 
-#[test]
-fn links_cut_fail_and_end(rt: HostRuntime) -> Result<(), Fail> {
-    let alloc = rt.alloc();
-    let mut link = MemLink::new(alloc, b"hello", 3, &[2], 4, 5)?;
+fn cuts_fails_and_ends(link: &mut MemLink) -> Result<(), Fail> {
     let mut into = [0u8; 8];
     same(link.read(&mut into), Got::Bytes(3))?;
     same(&into[..3], b"hel".as_slice())?;
@@ -58,8 +56,15 @@ fn links_cut_fail_and_end(rt: HostRuntime) -> Result<(), Fail> {
     same(link.write(b"abcd"), Put::Took(3))?;
     same(link.write(b"de"), Put::Failed)?;
     same(link.read(&mut into), Got::Failed)?;
-    same(link.faults(), 3)?;
-    Ok(())
+    same(link.faults(), 3)
+}
+
+#[test]
+fn links_cut_fail_and_end(rt: HostRuntime) -> Result<(), Fail> {
+    let mut link = MemLink::new(rt.alloc(), b"hello", 3, &[2], 4, 5)?;
+    let done = cuts_fails_and_ends(&mut link);
+    drop(link);
+    done
 }
 
 #[test]
@@ -67,11 +72,9 @@ fn closed_links_fail(rt: HostRuntime) -> Result<(), Fail> {
     let mut into = [0u8; 4];
     let mut link = MemLink::new(rt.alloc(), b"abc", 2, &[], 8, 4)?;
     link.close();
-    same(
-        read_and_write(&mut link, &mut into, b"x"),
-        (Got::Failed, Put::Failed),
-    )?;
-    Ok(())
+    let both = read_and_write(&mut link, &mut into, b"x");
+    drop(link);
+    same(both, (Got::Failed, Put::Failed))
 }
 
 /// What a call of a net came to.
@@ -112,15 +115,17 @@ fn exchange(net: &mut MemNet) -> (Got, Put) {
     }
 }
 
-#[test]
-fn nets_note_their_calls(rt: HostRuntime) -> Result<(), Fail> {
-    let alloc = rt.alloc();
+/// A net of one link, whose fourth call fails.
+fn net_of_one(alloc: Global) -> Result<MemNet, Fail> {
     let mut links = Vec::new(alloc);
     links.push(MemLink::new(alloc, b"abc", 2, &[], 8, 4)?)?;
-    let mut net = MemNet::new(alloc, links, &[4], 8)?;
+    Ok(MemNet::new(alloc, links, &[4], 8)?)
+}
+
+fn notes_its_calls(net: &mut MemNet) -> Result<(), Fail> {
     same(net.listen(443), Act::Ready)?;
-    same(exchange(&mut net), (Got::Bytes(2), Put::Took(2)))?;
-    holds(!take_and_give_back(&mut net))?;
+    same(exchange(net), (Got::Bytes(2), Put::Took(2)))?;
+    holds(!take_and_give_back(net))?;
     holds(matches!(net.connect(80), Linked::Failed))?;
     same(net.faults(), 2)?;
     let wanted = ["listens", "right", "no link", "connects"];
@@ -129,6 +134,14 @@ fn nets_note_their_calls(rt: HostRuntime) -> Result<(), Fail> {
         same(kind_of(call), want)?;
     }
     Ok(())
+}
+
+#[test]
+fn nets_note_their_calls(rt: HostRuntime) -> Result<(), Fail> {
+    let mut net = net_of_one(rt.alloc())?;
+    let done = notes_its_calls(&mut net);
+    drop(net);
+    done
 }
 
 #[test]
@@ -184,15 +197,17 @@ fn make_odd(is_short: bool, fails_flush: bool) -> Odd {
     }
 }
 
-#[test]
-fn objects_of_std_that_fail() -> Result<(), Fail> {
+fn sources_of_std_fail() -> Result<(), Fail> {
     let mut into = [0u8; 4];
     let mut source = ReadSource::new(make_odd(true, false));
     same(source.read(&mut into), Got::Failed)?;
     same(source.faults(), 1)?;
     let mut source = ReadSource::new(b"".as_slice());
     same(source.read(&mut into), Got::End)?;
-    same(source.faults(), 0)?;
+    same(source.faults(), 0)
+}
+
+fn sinks_of_std_fail() -> Result<(), Fail> {
     let mut sink = WriteSink::new(make_odd(false, false));
     same(sink.write(b"abc"), Put::Failed)?;
     same(sink.faults(), 1)?;
@@ -205,50 +220,105 @@ fn objects_of_std_that_fail() -> Result<(), Fail> {
     same(sink.write(b"abc"), Put::Took(1))?;
     same(sink.write(b"bc"), Put::Took(1))?;
     same(sink.faults(), 0)?;
-    same(sink.into_inner().passed, 2)?;
-    Ok(())
+    same(sink.into_inner().passed, 2)
 }
 
 #[test]
-fn files_are_read_by_name(rt: HostRuntime) -> Result<(), Fail> {
-    let alloc = rt.alloc();
+fn objects_of_std_that_fail() -> Result<(), Fail> {
+    sources_of_std_fail()?;
+    sinks_of_std_fail()
+}
+
+/// What a read of the file of this name gave, and how many bytes.
+fn read_by_name<F: KeyFiles>(files: &mut F, alloc: Global, name: &str) -> (&'static str, usize) {
+    match files.read(alloc, name) {
+        FileGot::Contents(text) => {
+            let text = text.as_slice();
+            let told = if text == b"key".as_slice() {
+                "key"
+            } else {
+                "others"
+            };
+            (told, text.len())
+        }
+        FileGot::Failed => ("failed", 0),
+        FileGot::Memory => ("no memory", 0),
+    }
+}
+
+/// A file `ring`, whose third read fails.
+fn one_file(alloc: Global) -> Result<MemFiles, Fail> {
     let mut files = Vec::new(alloc);
     let name = Octets::copy(alloc, b"ring")?;
     let contents = Octets::copy(alloc, b"key")?;
     files.push(NamedFile { name, contents })?;
-    let mut files = MemFiles::new(alloc, files, &[3], 4)?;
-    assert!(rt;
-        matches!(files.read(alloc, "ring"), FileGot::Contents(text) if text.as_slice() == b"key".as_slice())
-    );
-    assert!(rt; matches!(files.read(alloc, "other"), FileGot::Failed));
-    assert!(rt; matches!(files.read(alloc, "ring"), FileGot::Failed));
+    Ok(MemFiles::new(alloc, files, &[3], 4)?)
+}
+
+fn files_in_memory(alloc: Global) -> Result<(), Fail> {
+    let mut files = one_file(alloc)?;
+    let first = read_by_name(&mut files, alloc, "ring");
+    let other = read_by_name(&mut files, alloc, "other");
+    let third = read_by_name(&mut files, alloc, "ring");
+    drop(files);
+    same(
+        (first, other, third),
+        (("key", 3), ("failed", 0), ("failed", 0)),
+    )
+}
+
+/// What a read gives of so many bytes, in a file of this machine.
+fn written_and_read<F: KeyFiles>(
+    files: &mut F,
+    rt: &HostRuntime,
+    name: &str,
+    bytes: usize,
+) -> Result<(&'static str, usize), Fail> {
+    let text = vec![in rt.alloc(); 7u8; bytes]?;
+    fs::write(rt, name, text.as_slice())?;
+    Ok(read_by_name(files, rt.alloc(), name))
+}
+
+fn files_of_this_machine(rt: &HostRuntime) -> Result<(), Fail> {
     let name = "mt_edge_file.tmp";
-    fs::write(&rt, name, b"key".as_slice())?;
-    let mut files = DiskFiles::new(&rt);
-    assert!(rt;
-        matches!(files.read(alloc, name), FileGot::Contents(text) if text.as_slice() == b"key".as_slice())
-    );
-    let long = vec![in alloc; 7u8; 1_048_577]?;
-    fs::write(&rt, name, long.as_slice())?;
-    assert!(rt; matches!(files.read(alloc, name), FileGot::Failed));
-    let full = vec![in alloc; 7u8; 1_048_576]?;
-    fs::write(&rt, name, full.as_slice())?;
-    assert!(rt; matches!(files.read(alloc, name), FileGot::Contents(_)));
-    fs::remove_file(&rt, name)?;
-    assert!(rt; matches!(files.read(alloc, name), FileGot::Failed));
-    Ok(())
+    fs::write(rt, name, b"key".as_slice())?;
+    let mut files = DiskFiles::new(rt);
+    same(read_by_name(&mut files, rt.alloc(), name), ("key", 3))?;
+    same(
+        written_and_read(&mut files, rt, name, 1_048_577)?,
+        ("failed", 0),
+    )?;
+    same(
+        written_and_read(&mut files, rt, name, 1_048_576)?,
+        ("others", 1_048_576),
+    )?;
+    fs::remove_file(rt, name)?;
+    same(read_by_name(&mut files, rt.alloc(), name), ("failed", 0))
 }
 
 #[test]
-fn files_of_keys_show_no_byte(rt: HostRuntime) -> Result<(), Fail> {
+fn files_are_read_by_name(rt: HostRuntime) -> Result<(), Fail> {
+    files_in_memory(rt.alloc())?;
+    files_of_this_machine(&rt)
+}
+
+#[test]
+fn a_file_of_keys_shows_no_byte(rt: HostRuntime) -> Result<(), Fail> {
     let alloc = rt.alloc();
     let name = Octets::copy(alloc, b"")?;
     let contents = Octets::copy(alloc, b"key")?;
     let file = NamedFile { name, contents };
-    let got = FileGot::Contents(Octets::copy(alloc, b"key")?);
-    shows(alloc, &got, "Contents { count: 3, .. }")?;
-    holds(!shown(alloc, &file)?.as_str().contains("107"))?;
-    Ok(())
+    let text = shown(alloc, &file);
+    drop(file);
+    holds(!text?.as_str().contains("107"))
+}
+
+#[test]
+fn what_was_read_of_keys_shows_no_byte(rt: HostRuntime) -> Result<(), Fail> {
+    let got = FileGot::Contents(Octets::copy(rt.alloc(), b"key")?);
+    let text = shown(rt.alloc(), &got);
+    drop(got);
+    same(text?.as_str(), "Contents { count: 3, .. }")
 }
 
 /// Listens on the first of some ports that isn't taken.
@@ -261,31 +331,76 @@ fn free_port<N: Net>(net: &mut N) -> Option<u16> {
     None
 }
 
-#[test]
-fn sockets_of_this_machine(rt: HostRuntime) -> Result<(), Fail> {
-    let mut net = TcpNet::new(&rt);
-    let Some(port) = free_port(&mut net) else {
-        return Err("no free port".into());
-    };
-    let mut other = TcpNet::new(&rt);
-    same(other.listen(port), Act::Failed)?;
-    let (Linked::Link(mut near), Linked::Link(mut far)) = (other.connect(port), net.accept()) else {
-        return Err("no connection".into());
-    };
+/// Bytes go from one end to the other, and back.
+fn speak<A: Link, B: Link>(near: &mut A, far: &mut B) -> Result<(), Fail> {
     let mut into = [0u8; 4];
     same(near.write(b"abc"), Put::Took(3))?;
     same(far.read(&mut into), Got::Bytes(3))?;
     same(&into[..3], b"abc".as_slice())?;
     same(far.write(b"de"), Put::Took(2))?;
-    same(near.read(&mut into), Got::Bytes(2))?;
+    same(near.read(&mut into), Got::Bytes(2))
+}
+
+/// Two ends speak; what the near one reads where the far one is closed, and what it reads and writes where it is closed itself.
+fn spoken<A: Net, B: Net>(
+    other: &mut A,
+    near: A::L,
+    net: &mut B,
+    far: B::L,
+) -> Result<(Got, (Got, Put)), Fail> {
+    let (mut near, mut far) = (near, far);
+    let spoke = speak(&mut near, &mut far);
     far.close();
     net.done(far);
-    same(near.read(&mut into), Got::End)?;
+    let ended = near.read(&mut [0u8; 4]);
     near.close();
-    same(near.read(&mut into), Got::Failed)?;
-    same(near.write(b"f"), Put::Failed)?;
+    let both = read_and_write(&mut near, &mut [0u8; 4], b"f");
     other.done(near);
-    Ok(())
+    spoke?;
+    Ok((ended, both))
+}
+
+/// The same of an end of a connection that a net takes at its other end.
+fn accepted<A: Net, B: Net>(
+    other: &mut A,
+    near: A::L,
+    net: &mut B,
+) -> Result<(Got, (Got, Put)), Fail> {
+    match net.accept() {
+        Linked::Link(far) => spoken(other, near, net, far),
+        Linked::Failed => {
+            let mut near = near;
+            near.close();
+            other.done(near);
+            Err("no link".into())
+        }
+    }
+}
+
+/// The same of a net that connects to a port on which another one listens, and on which it can't listen too.
+fn connected<A: Net, B: Net>(
+    other: &mut A,
+    net: &mut B,
+    port: u16,
+) -> Result<(Got, (Got, Put)), Fail> {
+    same(other.listen(port), Act::Failed)?;
+    match other.connect(port) {
+        Linked::Link(near) => accepted(other, near, net),
+        Linked::Failed => Err("no connection".into()),
+    }
+}
+
+#[test]
+fn sockets_of_this_machine(rt: HostRuntime) -> Result<(), Fail> {
+    let mut net = TcpNet::new(&rt);
+    let mut other = TcpNet::new(&rt);
+    let both = match free_port(&mut net) {
+        Some(port) => connected(&mut other, &mut net, port),
+        None => Err("no free port".into()),
+    };
+    drop(other);
+    drop(net);
+    same(both?, (Got::End, (Got::Failed, Put::Failed)))
 }
 
 #[test]

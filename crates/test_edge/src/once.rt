@@ -1,7 +1,8 @@
 //! How often the adapters of files and children ask the library, counted in front of this machine's.
 
+use crate::kids::{life, words};
 use disks::{Disk, DiskOpen, Disks, FileDisks};
-use mt_edge::{Act, ChildKids, DiskFiles, FileGot, KeyFiles, Line, Spawner};
+use mt_edge::{Act, ChildKids, DiskFiles, FileGot, KeyFiles};
 use std::alloc::Allocator;
 use std::cell::Cell;
 use std::fs::{self, Files, Metadata, OpenFile, OpenOptions};
@@ -159,6 +160,19 @@ fn a_file_is_opened_once(rt: HostRuntime) -> Result<(), Fail> {
     same(count.get(), 2)
 }
 
+/// What a file of this name answers to a write and to a sync, each with the count then.
+fn made_sure<D: Disks>(disks: &mut D, name: &str, count: &Cell<u64>) -> Option<[(Act, u64); 2]> {
+    match disks.open(name) {
+        DiskOpen::Disk(mut disk) => {
+            let written = (disk.write(0, b"a"), count.get());
+            let synced = (disk.sync(), count.get());
+            disks.done(disk);
+            Some([written, synced])
+        }
+        DiskOpen::Failed => None,
+    }
+}
+
 #[test]
 fn a_file_is_made_sure_of_once(rt: HostRuntime) -> Result<(), Fail> {
     let name = "disks_once.tmp";
@@ -167,29 +181,25 @@ fn a_file_is_made_sure_of_once(rt: HostRuntime) -> Result<(), Fail> {
         rt: &rt,
         count: &count,
     });
-    let DiskOpen::Disk(mut disk) = disks.open(name) else {
-        return Err("no file".into());
-    };
-    same((disk.write(0, b"a"), count.get()), (Act::Ready, 1))?;
-    same((disk.sync(), count.get()), (Act::Ready, 2))?;
-    disks.done(disk);
+    let told = made_sure(&mut disks, name, &count);
+    drop(disks);
     fs::remove_file(&rt, name)?;
-    Ok(())
+    same(told, Some([(Act::Ready, 1), (Act::Ready, 2)]))
 }
 
 #[test]
 fn a_child_is_started_once(rt: HostRuntime) -> Result<(), Fail> {
     let alloc = rt.alloc();
+    let program = String::from_str(alloc, "sh")?;
+    let words = words(alloc, "-c", "exit 0")?;
     let count = Cell::new(0);
     let counted = Counted {
         rt: &rt,
         count: &count,
     };
-    let mut kids = ChildKids::new(counted, String::from_str(alloc, "sh")?);
-    let mut words = Vec::new(alloc);
-    words.push(String::from_str(alloc, "-c")?)?;
-    words.push(String::from_str(alloc, "exit 0")?)?;
-    same(kids.start(words.as_slice()), Act::Ready)?;
-    same(matches!(kids.line(alloc), Line::End), true)?;
-    same((kids.wait(), count.get()), (Act::Ready, 1))
+    let mut kids = ChildKids::new(counted, program);
+    let life = life(&mut kids, alloc, words.as_slice());
+    drop(kids);
+    drop(words);
+    same((life, count.get()), ((Act::Ready, "end", Act::Ready), 1))
 }

@@ -10,7 +10,7 @@ use octets::{Memory, Octets};
 use std::alloc::Global;
 use std::test::Fail;
 use temp_keys::{BindFault, Binding, Bound, Inner, InnerField, bind_message, check};
-use test_asserts::{same, tells};
+use test_asserts::{holds, same, same_at, shown, tells};
 use test_keys::{KEY_ID, TEMP_ID, both_keys, bytes_from_0_to_255};
 
 const NUMBER: u64 = 0x65a1_b2c3_d4e5_f608;
@@ -49,142 +49,128 @@ fn message_made_outside(rt: HostRuntime) -> Result<(), Fail> {
     Ok(())
 }
 
-#[derive(Clone, Copy)]
-struct Row {
-    perm: u64,
-    number: u64,
-    nonce: u64,
-    temp: u64,
-    session: u64,
-    expires: u32,
-    now: u64,
-    answer: Result<Bound, BindFault>,
+// The message. No contract says what it is: such a list is computed by all that looks at it.
+fn message(alloc: Global) -> Result<Octets, Memory> {
+    Octets::copy(alloc, &MESSAGE)
 }
 
-const BOUND: Bound = Bound {
-    temp: TEMP_ID,
-    perm: KEY_ID,
-    expires: 7_200,
-};
+// A call, and its answer. The call has the key that is named in it, the number of its message, the nonce, the temporary key, the
+// session, when it expires, and when it comes; a word stands for what the message has there, and `perm` and `temp` for the keys.
+const ANSWERS: &str = "\
+perm number nonce temp session 7200 7199 = Ok(Bound { temp: 1390049393749643670, perm: 14474384091129631026, expires: 7200 })\n\
+7 number nonce temp session 7200 7199 = Err(NoPerm)\n\
+temp number nonce temp session 7200 7199 = Err(NoPerm)\n\
+perm 8 8 temp session 7200 7199 = Err(Field { which: Number })\n\
+perm number 8 temp 8 7200 7199 = Err(Field { which: Nonce })\n\
+perm number nonce perm session 7200 7199 = Err(Field { which: Temp })\n\
+perm number nonce temp 8 8 7199 = Err(Field { which: Session })\n\
+perm number nonce temp session 8 8 = Err(Field { which: Expires })\n\
+perm number nonce temp session 7200 7200 = Err(Expired)\n";
 
-const TAKEN: Row = Row {
-    perm: KEY_ID,
-    number: NUMBER,
-    nonce: INNER.nonce,
-    temp: TEMP_ID,
-    session: INNER.session,
-    expires: 7_200,
-    now: 7_199,
-    answer: Ok(BOUND),
-};
+fn number_of(word: &str) -> Result<u64, Fail> {
+    match word {
+        "perm" => Ok(KEY_ID),
+        "temp" => Ok(TEMP_ID),
+        "number" => Ok(NUMBER),
+        "nonce" => Ok(INNER.nonce),
+        "session" => Ok(INNER.session),
+        _ => Ok(word.parse::<u64>()?),
+    }
+}
 
-fn differs(which: InnerField) -> Result<Bound, BindFault> {
-    Err(BindFault::Field { which })
+// The numbers of a call.
+fn numbers_of(words: &str) -> Result<[u64; 7], Fail> {
+    holds(words.split(' ').count() == 7)?;
+    let mut numbers = [0; 7];
+    for (number, word) in numbers.iter_mut().zip(words.split(' ')) {
+        *number = number_of(word)?;
+    }
+    Ok(numbers)
+}
+
+// The answer to a call with the message.
+fn answer(alloc: Global, ring: &Ring, numbers: [u64; 7]) -> Result<Result<Bound, BindFault>, Fail> {
+    let [perm, number, nonce, temp, session, expires, now] = numbers;
+    let binding = Binding {
+        perm,
+        nonce,
+        expires: u32::try_from(expires).ok().ok_or("a moment of 32 bits")?,
+        message: message(alloc)?,
+    };
+    let answer = check(ring, Moment::new(now), temp, session, number, &binding);
+    drop(binding);
+    Ok(answer)
+}
+
+// The call of a row has the answer of the row.
+fn is_answered(alloc: Global, ring: &Ring, row: &str) -> Result<(), Fail> {
+    let (words, want) = row.split_once(" = ").ok_or("a call and its answer")?;
+    let answer = shown(alloc, &answer(alloc, ring, numbers_of(words)?)?)?;
+    same_at(words, answer.as_str(), want)
+}
+
+fn are_answered(alloc: Global, ring: &Ring) -> Result<(), Fail> {
+    same(ANSWERS.lines().count(), 9)?;
+    for row in ANSWERS.lines() {
+        is_answered(alloc, ring, row)?;
+    }
+    Ok(())
 }
 
 #[test]
 fn calls_and_their_answers(rt: HostRuntime) -> Result<(), Fail> {
     let ring = both_keys(rt.alloc())?;
-    let rows = [
-        TAKEN,
-        Row {
-            perm: 7,
-            answer: Err(BindFault::NoPerm),
-            ..TAKEN
-        },
-        Row {
-            perm: TEMP_ID,
-            answer: Err(BindFault::NoPerm),
-            ..TAKEN
-        },
-        Row {
-            number: 8,
-            nonce: 8,
-            answer: differs(InnerField::Number),
-            ..TAKEN
-        },
-        Row {
-            nonce: 8,
-            session: 8,
-            answer: differs(InnerField::Nonce),
-            ..TAKEN
-        },
-        Row {
-            temp: KEY_ID,
-            answer: differs(InnerField::Temp),
-            ..TAKEN
-        },
-        Row {
-            session: 8,
-            expires: 8,
-            answer: differs(InnerField::Session),
-            ..TAKEN
-        },
-        Row {
-            expires: 8,
-            now: 8,
-            answer: differs(InnerField::Expires),
-            ..TAKEN
-        },
-        Row {
-            now: 7_200,
-            answer: Err(BindFault::Expired),
-            ..TAKEN
-        },
-    ];
-    for row in &rows {
-        let binding = Binding {
-            perm: row.perm,
-            nonce: row.nonce,
-            expires: row.expires,
-            message: Octets::copy(rt.alloc(), &MESSAGE)?,
-        };
-        let answer = check(
-            &ring,
-            Moment::new(row.now),
-            row.temp,
-            row.session,
-            row.number,
-            &binding,
-        );
-        same(answer, row.answer)?;
+    let done = are_answered(rt.alloc(), &ring);
+    drop(ring);
+    done
+}
+
+// A binding with another message of such a call isn't sealed under the permanent key.
+fn is_unsealed(ring: &Ring, message: Octets) -> Result<(), Fail> {
+    let binding = Binding {
+        perm: KEY_ID,
+        nonce: INNER.nonce,
+        expires: 7_200,
+        message,
+    };
+    let answer = check(
+        ring,
+        Moment::new(0),
+        TEMP_ID,
+        INNER.session,
+        NUMBER,
+        &binding,
+    );
+    drop(binding);
+    same(answer, Err(BindFault::Seal))
+}
+
+// The message with the lowest bit of this byte flipped.
+fn flipped(alloc: Global, place: usize) -> Result<Octets, Memory> {
+    let mut bytes = MESSAGE;
+    if let Some(byte) = bytes.get_mut(place) {
+        *byte ^= 1;
     }
-    Ok(())
+    Octets::copy(alloc, &bytes)
 }
 
 // A message cut, a longer one, and one with a bit flipped in the identifier, in the message key and in the text.
+fn are_unsealed(alloc: Global, ring: &Ring) -> Result<(), Fail> {
+    is_unsealed(ring, Octets::copy(alloc, &MESSAGE[..103])?)?;
+    let mut longer = message(alloc)?;
+    longer.push_all(alloc, &[0])?;
+    is_unsealed(ring, longer)?;
+    is_unsealed(ring, flipped(alloc, 0)?)?;
+    is_unsealed(ring, flipped(alloc, 8)?)?;
+    is_unsealed(ring, flipped(alloc, 103)?)
+}
+
 #[test]
 fn other_messages(rt: HostRuntime) -> Result<(), Fail> {
-    let alloc = rt.alloc();
-    let ring = both_keys(alloc)?;
-    let mut longer = Octets::copy(alloc, &MESSAGE)?;
-    longer.push_all(alloc, &[0])?;
-    let mut messages = Vec::new(alloc);
-    messages.push(Octets::copy(alloc, &MESSAGE[..103])?)?;
-    messages.push(longer)?;
-    for place in [0, 8, 103] {
-        let mut message = MESSAGE;
-        message[place] ^= 1;
-        messages.push(Octets::copy(alloc, &message)?)?;
-    }
-    for message in messages {
-        let binding = Binding {
-            perm: KEY_ID,
-            nonce: INNER.nonce,
-            expires: 7_200,
-            message,
-        };
-        let answer = check(
-            &ring,
-            Moment::new(0),
-            TEMP_ID,
-            INNER.session,
-            NUMBER,
-            &binding,
-        );
-        same(answer, Err(BindFault::Seal))?;
-    }
-    Ok(())
+    let ring = both_keys(rt.alloc())?;
+    let done = are_unsealed(rt.alloc(), &ring);
+    drop(ring);
+    done
 }
 
 // Who makes a message and has it checked needs no lemma.

@@ -11,7 +11,7 @@ use frame_full::{Deframer, FrameFault, Framer, Next};
 use octets::{Memory, Octets};
 use std::alloc::Global;
 use std::test::*;
-use test_asserts::{holds, same};
+use test_asserts::{holds, holds_at, same, same_at, shown};
 
 // Feeds a piece and copies the packet that comes next, where there is one.
 fn take_packet(
@@ -81,7 +81,42 @@ fn written_and_read(
     read_one(deframer, alloc, &text, into)
 }
 
-// The packets of a stream that is fed in pieces of this size, as one text, and its fault.
+// The packets that are there, so many at most, are put behind a text; the fault behind them.
+fn drain(
+    deframer: &mut Deframer,
+    alloc: Global,
+    text: &mut Octets,
+    most: usize,
+) -> Result<Option<FrameFault>, Memory> {
+    for _ in 0..most {
+        match deframer.next() {
+            Next::Packet(packet) => text.push_all(alloc, packet)?,
+            Next::More => break,
+            Next::Fault(fault) => return Ok(Some(fault)),
+        }
+    }
+    Ok(None)
+}
+
+// The same of a stream that is fed in pieces of this size.
+fn feed(
+    deframer: &mut Deframer,
+    alloc: Global,
+    stream: &[u8],
+    size: usize,
+    text: &mut Octets,
+) -> Result<Option<FrameFault>, Memory> {
+    for piece in stream.chunks(size.max(1)) {
+        deframer.feed(alloc, piece)?;
+        let fault = drain(deframer, alloc, text, stream.len())?;
+        if fault.is_some() {
+            return Ok(fault);
+        }
+    }
+    Ok(None)
+}
+
+// Whether the packets of a stream that is fed in pieces of this size are this text, and its fault.
 fn read(
     alloc: Global,
     stream: &[u8],
@@ -90,17 +125,11 @@ fn read(
 ) -> Result<(bool, Option<FrameFault>), Fail> {
     let mut deframer = Deframer::new(alloc);
     let mut text = Octets::new(alloc);
-    for piece in stream.chunks(size.max(1)) {
-        deframer.feed(alloc, piece)?;
-        for _ in 0..stream.len() {
-            match deframer.next() {
-                Next::Packet(packet) => text.push_all(alloc, packet)?,
-                Next::More => break,
-                Next::Fault(fault) => return Ok((text.as_slice() == want, Some(fault))),
-            }
-        }
-    }
-    Ok((text.as_slice() == want, None))
+    let fault = feed(&mut deframer, alloc, stream, size, &mut text);
+    drop(deframer);
+    let same = text.as_slice() == want;
+    drop(text);
+    Ok((same, fault?))
 }
 
 #[test]
@@ -122,37 +151,48 @@ fn frames_are_counted(rt: HostRuntime) -> Result<(), Fail> {
     Ok(())
 }
 
+// The bytes of a stream, and its fault. No packet comes.
+const STREAMS: &str = "\
+0b0000 None\n\
+0b000000 Some(BadLength { len: 11 })\n\
+0c000000 Some(BadLength { len: 12 })\n\
+12000000 Some(BadLength { len: 18 })\n\
+0c001000 None\n\
+10001000 Some(TooLong { len: 1048592 })\n\
+10000000000000006cfeffff0d2f4187 Some(Sum { said: 2269196045, found: 121712397 })\n\
+10000000010000006cfeffff932febcb Some(Count { said: 1, want: 0 })\n";
+
+// The stream of a row, fed in pieces of this size, gives the fault that the row says.
+fn is_read(alloc: Global, row: &str, size: usize) -> Result<(), Fail> {
+    let (stream, due) = row.split_once(' ').ok_or("a stream and its fault")?;
+    let stream = hex::decode(alloc, stream).ok().ok_or("digits")?;
+    let (same, fault) = read(alloc, stream.as_slice(), size, b"")?;
+    holds_at(row, same)?;
+    same_at(row, shown(alloc, &fault)?.as_str(), due)
+}
+
 #[test]
 fn rows_of_faults(rt: HostRuntime) -> Result<(), Fail> {
-    let alloc = rt.alloc();
-    let rows: [(&[u8], Option<FrameFault>); 8] = [
-        (b"\x0b\0\0", None),
-        (b"\x0b\0\0\0", Some(FrameFault::BadLength { len: 11 })),
-        (b"\x0c\0\0\0", Some(FrameFault::BadLength { len: 12 })),
-        (b"\x12\0\0\0", Some(FrameFault::BadLength { len: 18 })),
-        (b"\x0c\0\x10\0", None),
-        (
-            b"\x10\0\x10\0",
-            Some(FrameFault::TooLong { len: 1_048_592 }),
-        ),
-        (
-            b"\x10\0\0\0\0\0\0\0\x6c\xfe\xff\xff\x0d\x2f\x41\x87",
-            Some(FrameFault::Sum {
-                said: 0x87412f0d,
-                found: 0x07412f0d,
-            }),
-        ),
-        (
-            b"\x10\0\0\0\x01\0\0\0\x6c\xfe\xff\xff\x93\x2f\xeb\xcb",
-            Some(FrameFault::Count { said: 1, want: 0 }),
-        ),
-    ];
-    for (stream, fault) in rows {
-        for size in [1, 7, 16] {
-            same(read(alloc, stream, size, b"")?, (true, fault))?;
-        }
+    same(STREAMS.lines().count(), 8)?;
+    for row in STREAMS.lines() {
+        is_read(rt.alloc(), row, 1)?;
+        is_read(rt.alloc(), row, 7)?;
+        is_read(rt.alloc(), row, 16)?;
     }
     Ok(())
+}
+
+// A payload of this byte is written, and read into a packet.
+fn comes_back(
+    framer: &mut Framer,
+    deframer: &mut Deframer,
+    alloc: Global,
+    byte: u8,
+    packet: &mut Octets,
+) -> Result<(), Fail> {
+    let payload = [byte; 88];
+    holds(written_and_read(framer, deframer, alloc, &payload, packet)?)?;
+    same(packet.as_slice(), payload.as_slice())
 }
 
 #[test]
@@ -161,31 +201,42 @@ fn what_is_written_is_read(rt: HostRuntime) -> Result<(), Fail> {
     let mut framer = Framer::new();
     let mut deframer = Deframer::new(alloc);
     let mut packet = Octets::new(alloc);
-    for payload in [[7; 88], [9; 88]] {
-        holds(written_and_read(&mut framer, &mut deframer, alloc, &payload, &mut packet)?)?;
-        same(packet.as_slice(), payload.as_slice())?;
-    }
-    Ok(())
+    comes_back(&mut framer, &mut deframer, alloc, 7, &mut packet)?;
+    comes_back(&mut framer, &mut deframer, alloc, 9, &mut packet)
+}
+
+// A packet comes in two pieces.
+fn takes_one(deframer: &mut Deframer, alloc: Global) -> Result<(), Fail> {
+    let mut packet = Octets::new(alloc);
+    holds(!take_packet(deframer, alloc, b"\x10\0\0\0\0\0\0\0", &mut packet)?)?;
+    let rest = b"\x6c\xfe\xff\xff\x0d\x2f\x41\x07";
+    holds(take_packet(deframer, alloc, rest, &mut packet)?)?;
+    same(packet.as_slice(), b"\x6c\xfe\xff\xff".as_slice())
+}
+
+// Behind these bytes there is this fault.
+fn has_fault(
+    deframer: &mut Deframer,
+    alloc: Global,
+    bytes: &[u8],
+    fault: FrameFault,
+) -> Result<(), Fail> {
+    deframer.feed(alloc, bytes)?;
+    same(deframer.next(), Next::Fault(fault))
+}
+
+fn fault_stays(deframer: &mut Deframer, alloc: Global) -> Result<(), Fail> {
+    takes_one(deframer, alloc)?;
+    let again = b"\x10\0\0\0\0\0\0\0\x6c\xfe\xff\xff\x0d\x2f\x41\x07";
+    let fault = FrameFault::Count { said: 0, want: 1 };
+    has_fault(deframer, alloc, again, fault)?;
+    has_fault(deframer, alloc, again, fault)
 }
 
 #[test]
 fn a_fault_stays(rt: HostRuntime) -> Result<(), Fail> {
-    let alloc = rt.alloc();
-    let mut deframer = Deframer::new(alloc);
-    let mut packet = Octets::new(alloc);
-    holds(!take_packet(&mut deframer, alloc, b"\x10\0\0\0\0\0\0\0", &mut packet)?)?;
-    holds(take_packet(
-        &mut deframer,
-        alloc,
-        b"\x6c\xfe\xff\xff\x0d\x2f\x41\x07",
-        &mut packet,
-    )?)?;
-    same(packet.as_slice(), b"\x6c\xfe\xff\xff".as_slice())?;
-    let again = b"\x10\0\0\0\0\0\0\0\x6c\xfe\xff\xff\x0d\x2f\x41\x07";
-    deframer.feed(alloc, again)?;
-    let fault = FrameFault::Count { said: 0, want: 1 };
-    same(deframer.next(), Next::Fault(fault))?;
-    deframer.feed(alloc, again)?;
-    same(deframer.next(), Next::Fault(fault))?;
-    Ok(())
+    let mut deframer = Deframer::new(rt.alloc());
+    let done = fault_stays(&mut deframer, rt.alloc());
+    drop(deframer);
+    done
 }

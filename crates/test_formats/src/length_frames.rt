@@ -9,7 +9,7 @@ use frame_len::{Deframer, FrameFault, Framer, Next};
 use octets::{Memory, Octets};
 use std::alloc::Global;
 use std::test::*;
-use test_asserts::{holds, same};
+use test_asserts::{holds, holds_at, same, same_at};
 
 // Feeds a piece and copies the packet that comes next, where there is one.
 fn take_packet(
@@ -56,6 +56,45 @@ fn written_and_read(
     take_packet(deframer, alloc, text.as_slice(), into)
 }
 
+// The packets that are there, so many at most, are put behind a text: how many there are, and the fault behind them.
+fn drain(
+    deframer: &mut Deframer,
+    alloc: Global,
+    text: &mut Octets,
+    most: usize,
+) -> Result<(usize, Option<FrameFault>), Memory> {
+    let mut count = 0usize;
+    for _ in 0..most {
+        match deframer.next() {
+            Next::Packet(packet) => text.push_all(alloc, packet)?,
+            Next::More => break,
+            Next::Fault(fault) => return Ok((count, Some(fault))),
+        }
+        count = count.saturating_add(1);
+    }
+    Ok((count, None))
+}
+
+// The same of a stream that is fed in pieces of this size.
+fn feed(
+    deframer: &mut Deframer,
+    alloc: Global,
+    stream: &[u8],
+    size: usize,
+    text: &mut Octets,
+) -> Result<(usize, Option<FrameFault>), Memory> {
+    let mut count = 0usize;
+    for piece in stream.chunks(size.max(1)) {
+        deframer.feed(alloc, piece)?;
+        let (more, fault) = drain(deframer, alloc, text, stream.len())?;
+        count = count.saturating_add(more);
+        if fault.is_some() {
+            return Ok((count, fault));
+        }
+    }
+    Ok((count, None))
+}
+
 // How many packets a stream gives that is fed in pieces of this size, whether they are this text, and its fault.
 fn read(
     alloc: Global,
@@ -66,92 +105,99 @@ fn read(
 ) -> Result<(usize, bool, Option<FrameFault>), Fail> {
     let mut deframer = Deframer::new(alloc, padded);
     let mut text = Octets::new(alloc);
-    let mut count = 0usize;
-    for piece in stream.chunks(size.max(1)) {
-        deframer.feed(alloc, piece)?;
-        for _ in 0..stream.len() {
-            match deframer.next() {
-                Next::Packet(packet) => {
-                    text.push_all(alloc, packet)?;
-                    count = count.saturating_add(1);
-                }
-                Next::More => break,
-                Next::Fault(fault) => {
-                    return Ok((count, text.as_slice() == want, Some(fault)));
-                }
-            }
-        }
-    }
-    Ok((count, text.as_slice() == want, None))
+    let fed = feed(&mut deframer, alloc, stream, size, &mut text);
+    drop(deframer);
+    let same = text.as_slice() == want;
+    drop(text);
+    let (count, fault) = fed?;
+    Ok((count, same, fault))
 }
 
-#[test]
-fn rows_of_streams(rt: HostRuntime) -> Result<(), Fail> {
-    let alloc = rt.alloc();
-    let rows: [(bool, &[u8], usize, Option<FrameFault>); 16] = [
-        (false, b"", 0, None),
-        (false, b"\x04\0\0\0\x6c\xfe\xff", 0, None),
-        (false, b"\x04\0\0\0\x6c\xfe\xff\xff", 1, None),
-        (true, b"\x04\0\0\0\x6c\xfe\xff\xff", 1, None),
-        (true, b"\x05\0\0\0\x6c\xfe\xff\xff", 0, None),
-        (true, b"\x05\0\0\0\x6c\xfe\xff\xff\x01", 1, None),
-        (false, b"\0\0\x10\0", 0, None),
-        (
-            false,
-            b"\x04\0\x10\0",
-            0,
-            Some(FrameFault::TooLong { len: 1_048_580 }),
-        ),
-        (
-            false,
-            b"\x05\0\x10\0",
-            0,
-            Some(FrameFault::TooLong { len: 1_048_581 }),
-        ),
-        (true, b"\x07\0\x10\0", 0, None),
-        (
-            true,
-            b"\x08\0\x10\0",
-            0,
-            Some(FrameFault::TooLong { len: 1_048_584 }),
-        ),
-        (
-            false,
-            b"\x05\0\0\0",
-            0,
-            Some(FrameFault::BadLength { len: 5 }),
-        ),
-        (
-            false,
-            b"\0\0\0\0",
-            0,
-            Some(FrameFault::BadLength { len: 0 }),
-        ),
-        (true, b"\0\0\0\0", 0, Some(FrameFault::BadLength { len: 0 })),
-        (
-            true,
-            b"\x03\0\0\0",
-            0,
-            Some(FrameFault::BadLength { len: 3 }),
-        ),
-        (true, b"\x03\0\0", 0, None),
-    ];
-    for (padded, stream, count, fault) in rows {
-        let want: &[u8] = if count == 1 { b"\x6c\xfe\xff\xff" } else { b"" };
-        for size in [1, 3, 9] {
-            same(
-                read(alloc, padded, stream, size, want)?,
-                (count, true, fault),
-            )?;
-        }
+// The form, the bytes of a stream, how many packets come, and the fault.
+const STREAMS: &str = "\
+intermediate  0 None\n\
+intermediate 040000006cfeff 0 None\n\
+intermediate 040000006cfeffff 1 None\n\
+padded 040000006cfeffff 1 None\n\
+padded 050000006cfeffff 0 None\n\
+padded 050000006cfeffff01 1 None\n\
+intermediate 00001000 0 None\n\
+intermediate 04001000 0 Some(TooLong { len: 1048580 })\n\
+intermediate 05001000 0 Some(TooLong { len: 1048581 })\n\
+padded 07001000 0 None\n\
+padded 08001000 0 Some(TooLong { len: 1048584 })\n\
+intermediate 05000000 0 Some(BadLength { len: 5 })\n\
+intermediate 00000000 0 Some(BadLength { len: 0 })\n\
+padded 00000000 0 Some(BadLength { len: 0 })\n\
+padded 03000000 0 Some(BadLength { len: 3 })\n\
+padded 030000 0 None\n";
+
+// Whether a word is that of the padded form.
+fn is_padded(form: &str) -> Result<bool, Fail> {
+    match form {
+        "padded" => Ok(true),
+        "intermediate" => Ok(false),
+        _ => Err(Fail::new("no form")),
+    }
+}
+
+// What a stream gives that is fed in pieces of this size; each packet is `6cfeffff`.
+fn given(
+    alloc: Global,
+    padded: bool,
+    stream: &[u8],
+    size: usize,
+    due: &str,
+) -> Result<String, Fail> {
+    let want: &[u8] = if due.starts_with('1') {
+        b"\x6c\xfe\xff\xff"
+    } else {
+        b""
+    };
+    let (count, same, fault) = read(alloc, padded, stream, size, want)?;
+    holds_at(due, same)?;
+    Ok(format!(in alloc; "{count} {fault:?}")?)
+}
+
+// The stream of a row gives what the row says.
+fn is_read(alloc: Global, row: &str) -> Result<(), Fail> {
+    let (form, rest) = row.split_once(' ').ok_or("a form")?;
+    let (stream, due) = rest.split_once(' ').ok_or("a stream and what it gives")?;
+    let stream = hex::decode(alloc, stream).ok().ok_or("digits")?;
+    let padded = is_padded(form)?;
+    for size in [1, 3, 9] {
+        let found = given(alloc, padded, stream.as_slice(), size, due)?;
+        same_at(row, found.as_str(), due)?;
     }
     Ok(())
 }
 
 #[test]
+fn rows_of_streams(rt: HostRuntime) -> Result<(), Fail> {
+    same(STREAMS.lines().count(), 16)?;
+    for row in STREAMS.lines() {
+        is_read(rt.alloc(), row)?;
+    }
+    Ok(())
+}
+
+// Bytes of frames. No contract says what they are: such a list is computed by all that looks at it.
+fn sevens() -> [u8; 91] {
+    [7; 91]
+}
+
+// The packet of a padded frame that says this length, fed in pieces of this size, has so many bytes.
+fn is_cut(alloc: Global, len: u8, payload: usize, size: usize) -> Result<(), Fail> {
+    let bytes = sevens();
+    let mut stream = Octets::copy(alloc, &[len, 0, 0, 0])?;
+    stream.push_all(alloc, bytes.get(..len as usize).ok_or("too long")?)?;
+    let want = bytes.get(..payload).ok_or("too long")?;
+    let found = read(alloc, true, stream.as_slice(), size, want)?;
+    same_at(len, found, (1, true, None))
+}
+
+#[test]
 fn padding_is_no_payload(rt: HostRuntime) -> Result<(), Fail> {
-    let alloc = rt.alloc();
-    let bytes = [7; 91];
     let rows: [(u8, usize); 8] = [
         (4, 4),
         (23, 4),
@@ -163,14 +209,9 @@ fn padding_is_no_payload(rt: HostRuntime) -> Result<(), Fail> {
         (91, 88),
     ];
     for (len, payload) in rows {
-        let mut stream = Octets::copy(alloc, &[len, 0, 0, 0])?;
-        stream.push_all(alloc, &bytes[..len as usize])?;
-        for size in [1, 7, 95] {
-            same(
-                read(alloc, true, stream.as_slice(), size, &bytes[..payload])?,
-                (1, true, None),
-            )?;
-        }
+        is_cut(rt.alloc(), len, payload, 1)?;
+        is_cut(rt.alloc(), len, payload, 7)?;
+        is_cut(rt.alloc(), len, payload, 95)?;
     }
     Ok(())
 }
@@ -187,24 +228,41 @@ fn what_is_written_is_read(rt: HostRuntime) -> Result<(), Fail> {
     Ok(())
 }
 
+// A packet comes in two pieces.
+fn takes_one(deframer: &mut Deframer, alloc: Global) -> Result<(), Fail> {
+    let mut packet = Octets::new(alloc);
+    holds(!take_packet(deframer, alloc, b"\x04\0\0\0\x6c", &mut packet)?)?;
+    holds(take_packet(deframer, alloc, b"\xfe\xff\xff", &mut packet)?)?;
+    same(packet.as_slice(), b"\x6c\xfe\xff\xff".as_slice())
+}
+
+// Behind these bytes there is the fault of a length of 2.
+fn has_fault(deframer: &mut Deframer, alloc: Global, bytes: &[u8]) -> Result<(), Fail> {
+    deframer.feed(alloc, bytes)?;
+    let fault = FrameFault::BadLength { len: 2 };
+    same(deframer.next(), Next::Fault(fault))
+}
+
+// Behind a fault no packet of a frame comes.
+fn stays(deframer: &mut Deframer, alloc: Global, frame: &[u8]) -> Result<(), Fail> {
+    takes_one(deframer, alloc)?;
+    has_fault(deframer, alloc, b"\x02\0\0\0")?;
+    has_fault(deframer, alloc, frame)
+}
+
+// The same of a stream of this form.
+fn fault_stays(alloc: Global, padded: bool) -> Result<(), Fail> {
+    let mut frame = Octets::new(alloc);
+    Framer::new(padded).frame(alloc, b"\x6c\xfe\xff\xff", &mut frame)?;
+    same(frame.as_slice(), b"\x04\0\0\0\x6c\xfe\xff\xff".as_slice())?;
+    let mut deframer = Deframer::new(alloc, padded);
+    let done = stays(&mut deframer, alloc, frame.as_slice());
+    drop(deframer);
+    done
+}
+
 #[test]
 fn a_fault_stays(rt: HostRuntime) -> Result<(), Fail> {
-    let alloc = rt.alloc();
-    for padded in [false, true] {
-        let mut framer = Framer::new(padded);
-        let mut frame = Octets::new(alloc);
-        framer.frame(alloc, b"\x6c\xfe\xff\xff", &mut frame)?;
-        same(frame.as_slice(), b"\x04\0\0\0\x6c\xfe\xff\xff".as_slice())?;
-        let mut deframer = Deframer::new(alloc, padded);
-        let mut packet = Octets::new(alloc);
-        holds(!take_packet(&mut deframer, alloc, b"\x04\0\0\0\x6c", &mut packet)?)?;
-        holds(take_packet(&mut deframer, alloc, b"\xfe\xff\xff", &mut packet)?)?;
-        same(packet.as_slice(), b"\x6c\xfe\xff\xff".as_slice())?;
-        deframer.feed(alloc, b"\x02\0\0\0")?;
-        let fault = FrameFault::BadLength { len: 2 };
-        same(deframer.next(), Next::Fault(fault))?;
-        deframer.feed(alloc, frame.as_slice())?;
-        same(deframer.next(), Next::Fault(fault))?;
-    }
-    Ok(())
+    fault_stays(rt.alloc(), false)?;
+    fault_stays(rt.alloc(), true)
 }

@@ -11,7 +11,7 @@ use auth_keys::{AuthKey, KeyFault, KeyKind, Ring};
 use msg_ids::Moment;
 use std::alloc::{AllocError, Global};
 use std::test::Fail;
-use test_asserts::{holds, same, same_at, shows, tells};
+use test_asserts::{holds, same, same_at, shown, shows, tells};
 
 // The identifiers of the two keys, by Python's hashlib: int.from_bytes(sha1(key).digest()[12:20], "little").
 const UP_ID: u64 = 0xc8df_57a4_6e58_d132;
@@ -41,7 +41,10 @@ fn count(alloc: Global, text: &str) -> Result<usize, KeyFault> {
     if u32::try_from(text.len()).is_err() {
         return Err(KeyFault::Memory);
     }
-    Ok(Ring::read(alloc, text.as_bytes())?.len())
+    let ring = Ring::read(alloc, text.as_bytes())?;
+    let count = ring.len();
+    drop(ring);
+    Ok(count)
 }
 
 #[test]
@@ -58,43 +61,32 @@ fn identifiers_of_keys(rt: HostRuntime) -> Result<(), Fail> {
     Ok(())
 }
 
-// Texts in which `UP` stands for the digits of the key `00` to `ff`, and `DOWN` for those of the other, and what each is.
-const TEXTS: [(&str, Result<usize, KeyFault>); 18] = [
-    ("", Ok(0)),
-    ("perm UP", Ok(1)),
-    ("perm\tUP", Ok(1)),
-    ("# keys\n\nperm UP\ntemp 7200 DOWN\n", Ok(2)),
-    ("temp 1\tUP\ntemp\t4000000000 DOWN\n", Ok(2)),
-    ("perm 00", Err(KeyFault::BadLine { line: 1 })),
-    ("temp 0 UP", Err(KeyFault::BadLine { line: 1 })),
-    ("temp 01 UP", Err(KeyFault::BadLine { line: 1 })),
-    ("temp 4000000001 UP", Err(KeyFault::BadLine { line: 1 })),
-    ("\nperm UP\nperm  DOWN", Err(KeyFault::BadLine { line: 3 })),
-    ("perm UP\r\n", Err(KeyFault::BadLine { line: 1 })),
-    (" \nperm UP\n", Err(KeyFault::BadLine { line: 1 })),
-    ("perm UP\n\t\n", Err(KeyFault::BadLine { line: 2 })),
-    ("perm\t\tUP", Err(KeyFault::BadLine { line: 1 })),
-    ("\tperm UP", Err(KeyFault::BadLine { line: 1 })),
-    ("temp 1 UP\t", Err(KeyFault::BadLine { line: 1 })),
-    (
-        "perm UP\nperm UP\n",
-        Err(KeyFault::SameId {
-            line: 2,
-            first_line: 1,
-        }),
-    ),
-    (
-        "#\nperm UP\n\ntemp 9 UP\nperm 0",
-        Err(KeyFault::SameId {
-            line: 4,
-            first_line: 2,
-        }),
-    ),
-];
+// Texts, in which `UP` stands for the digits of the key `00` to `ff`, `DOWN` for those of the other and `;` for a newline, and what
+// each is.
+const TEXTS: &str = "\
+Ok(0) | \n\
+Ok(1) | perm UP\n\
+Ok(1) | perm\tUP\n\
+Ok(2) | # keys;;perm UP;temp 7200 DOWN;\n\
+Ok(2) | temp 1\tUP;temp\t4000000000 DOWN;\n\
+Err(BadLine { line: 1 }) | perm 00\n\
+Err(BadLine { line: 1 }) | temp 0 UP\n\
+Err(BadLine { line: 1 }) | temp 01 UP\n\
+Err(BadLine { line: 1 }) | temp 4000000001 UP\n\
+Err(BadLine { line: 3 }) | ;perm UP;perm  DOWN\n\
+Err(BadLine { line: 1 }) | perm UP\r;\n\
+Err(BadLine { line: 1 }) |  ;perm UP;\n\
+Err(BadLine { line: 2 }) | perm UP;\t;\n\
+Err(BadLine { line: 1 }) | perm\t\tUP\n\
+Err(BadLine { line: 1 }) | \tperm UP\n\
+Err(BadLine { line: 1 }) | temp 1 UP\t\n\
+Err(SameId { line: 2, first_line: 1 }) | perm UP;perm UP;\n\
+Err(SameId { line: 4, first_line: 2 }) | #;perm UP;;temp 9 UP;perm 0\n";
 
 // Such a text with the digits.
 fn with_digits(alloc: Global, text: &str, up: &str, down: &str) -> Result<String, AllocError> {
-    let text = text.replace(alloc, "UP", up)?;
+    let text = text.replace(alloc, ";", "\n")?;
+    let text = text.as_str().replace(alloc, "UP", up)?;
     text.as_str().replace(alloc, "DOWN", down)
 }
 
@@ -103,11 +95,19 @@ fn rings_and_faults_of_texts(rt: HostRuntime) -> Result<(), Fail> {
     let alloc = rt.alloc();
     let up = hex::encode(alloc, up().as_slice())?;
     let down = hex::encode_upper(alloc, down().as_slice())?;
-    for (text, expected) in TEXTS {
-        let whole = with_digits(alloc, text, up.as_str(), down.as_str())?;
-        same_at(text, count(alloc, whole.as_str()), expected)?;
+    same(TEXTS.lines().count(), 18)?;
+    for row in TEXTS.lines() {
+        is_counted(alloc, row, up.as_str(), down.as_str())?;
     }
     Ok(())
+}
+
+// The text of a row is what the row says.
+fn is_counted(alloc: Global, row: &str, up: &str, down: &str) -> Result<(), Fail> {
+    let (want, text) = row.split_once(" | ").ok_or("a count and a text")?;
+    let whole = with_digits(alloc, text, up, down)?;
+    let count = shown(alloc, &count(alloc, whole.as_str()))?;
+    same_at(row, count.as_str(), want)
 }
 
 // The text of the keys that have one byte 256 times.
@@ -158,33 +158,68 @@ fn read_again(alloc: Global, ring: &mut Ring, text: &[u8]) -> Result<(), KeyFaul
     Ok(())
 }
 
-#[test]
-fn keys_of_a_ring(rt: HostRuntime) -> Result<(), Fail> {
-    let alloc = rt.alloc();
+// The ring of both keys, of which the second expires at the moment 7,200, read behind a ring of none; by a text that is refused it
+// stays.
+fn both(alloc: Global) -> Result<Ring, Fail> {
+    let text = text_of_both(alloc)?;
     let mut ring = Ring::read(alloc, b"")?;
-    assert!(rt; ring.is_empty());
+    match reads(alloc, &mut ring, text.as_str()) {
+        Ok(()) => Ok(ring),
+        Err(fail) => {
+            drop(ring);
+            Err(fail)
+        }
+    }
+}
+
+fn text_of_both(alloc: Global) -> Result<String, AllocError> {
     let up = hex::encode(alloc, up().as_slice())?;
     let down = hex::encode(alloc, down().as_slice())?;
-    let text = format!(in alloc; "perm {up}\ntemp 7200 {down}")?;
-    if u32::try_from(text.len()).is_ok() {
-        read_again(alloc, &mut ring, text.as_bytes())?;
+    format!(in alloc; "perm {up}\ntemp 7200 {down}")
+}
+
+fn reads(alloc: Global, ring: &mut Ring, text: &str) -> Result<(), Fail> {
+    holds(ring.is_empty())?;
+    if u32::try_from(text.len()).is_err() {
+        return Err(Fail::new("too long"));
     }
-    assert_eq!(rt;
-        read_again(alloc, &mut ring, b"perm"),
-        Err(KeyFault::BadLine { line: 1 })
-    );
-    assert_eq!(rt; ring.len(), 2);
-    let expires = Moment::new(7_200);
+    read_again(alloc, ring, text.as_bytes())?;
+    same(
+        read_again(alloc, ring, b"perm"),
+        Err(KeyFault::BadLine { line: 1 }),
+    )
+}
+
+// What a ring says of an identifier: the kind of its key, the identifier of the key, and whether it is good at 7,199 and at
+// 7,200.
+fn told(alloc: Global, ring: &Ring, id: u64) -> Result<String, AllocError> {
+    let kind = ring.kind(id);
+    let found = ring.find(id).map(|key| key.id());
+    let before = good_key(ring, id, Moment::new(7_199)).is_some();
+    let at = good_key(ring, id, Moment::new(7_200)).is_some();
+    format!(in alloc; "{kind:?} {found:?} {before} {at}")
+}
+
+#[test]
+fn keys_of_a_ring(rt: HostRuntime) -> Result<(), Fail> {
+    let ring = both(rt.alloc())?;
+    let done = are_two(rt.alloc(), &ring);
+    drop(ring);
+    done
+}
+
+fn are_two(alloc: Global, ring: &Ring) -> Result<(), Fail> {
+    same(ring.len(), 2)?;
     let rows = [
-        (UP_ID, Some(KeyKind::Perm), true, true),
-        (DOWN_ID, Some(KeyKind::Temp { expires }), true, false),
-        (7, None, false, false),
+        (UP_ID, "Some(Perm) Some(14474384091129631026) true true"),
+        (
+            DOWN_ID,
+            "Some(Temp { expires: Moment { seconds: 7200 } }) Some(1390049393749643670) true false",
+        ),
+        (7, "None None false false"),
     ];
-    for (id, kind, before, at) in rows {
-        assert_eq!(rt; ring.kind(id), kind);
-        assert_eq!(rt; ring.find(id).map(|key| key.id()), kind.map(|_| id));
-        assert_eq!(rt; good_key(&ring, id, Moment::new(7_199)).is_some(), before);
-        assert_eq!(rt; good_key(&ring, id, expires).is_some(), at);
+    for (id, want) in rows {
+        same_at(id, told(alloc, ring, id)?.as_str(), want)?;
     }
     Ok(())
 }

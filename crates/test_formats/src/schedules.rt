@@ -6,7 +6,7 @@ ghost use Rattle.sched_text.specs.Schedule.{Spells};
 use sched_text::{Events, Lines, SchedFault, call_of, read};
 use std::alloc::Global;
 use std::test::*;
-use test_asserts::{holds, holds_at, same, shows, tells};
+use test_asserts::{holds, holds_at, same, same_at, shows, tells};
 
 // The first text's events, or the second's where the first has none.
 fn first_or_second(alloc: Global, first: &[u8], second: &[u8]) -> Result<Events, SchedFault>
@@ -20,138 +20,129 @@ fn first_or_second(alloc: Global, first: &[u8], second: &[u8]) -> Result<Events,
     }
 }
 
+// What a text gives, and the text, in which `;` stands for a newline.
+const EVENTS: &str = "\
+Client | client\n\
+ClientTemp | client temp\n\
+ClockAll { at: 0 } | clock 0\n\
+ClockServer { at: 7200 } | clock server 7200\n\
+ClockClient { client: 1, at: 18446744073709551615 } | clock 1 18446744073709551615\n\
+Call { client: 1, body: Octets { bytes: [1, 44, 27, 10, 1, 120, 0, 0, 5, 0, 0, 0, 0, 0, 0, 0] }, after: None } | call 1 add x 5\n\
+Call { client: 1, body: Octets { bytes: [2, 44, 27, 10, 2, 48, 122, 0] }, after: Some(10) } | call 1 get 0z after 10\n\
+Call { client: 1, body: Octets { bytes: [2, 44, 27, 10, 5, 97, 102, 116, 101, 114, 0, 0] }, after: None } | call 1 get after\n\
+Call { client: 1, body: Octets { bytes: [0, 0, 0] }, after: None } | call 1 pad 3\n\
+Call { client: 1, body: Octets { bytes: [161, 207, 114, 48, 0, 0, 0, 0] }, after: Some(2) } | call 1 packed after 2\n\
+Call { client: 2, body: Octets { bytes: [0, 170, 255] }, after: None } | call 2 hex 00aAFf\n\
+Call { client: 2, body: Octets { bytes: [] }, after: Some(3) } | call 2 hex - after 3\n\
+Call { client: 1, body: Octets { bytes: [1] }, after: Some(2) } | call\t1 hex\t01 after\t2\n\
+Salts { client: 1, count: 0 } | salts\t1 0\n\
+Flush { client: 1 } | flush 1\n\
+Give { packet: 12 } | give 12\n\
+ForeignServer { bytes: Octets { bytes: [] } } | foreign server -\n\
+ForeignClient { client: 1, bytes: Octets { bytes: [11, 173] } } | foreign 1 0bAD\n\
+Work { job: 1 } | work 1\n\
+TickServer | tick server\n\
+TickClient { client: 1 } | tick 1\n\
+AttachServer { client: 1 } | attach server 1\n\
+AttachClient { client: 1 } | attach 1\n\
+Ping { client: 1 } | ping 1\n\
+Salts { client: 1, count: 4294967295 } | salts 1 4294967295\n\
+DropAnswer { client: 1, call: 2 } | drop 1 2\n\
+Renew { client: 1 } | renew 1\n\
+End { client: 1 } | end 1\n\
+Lose { client: 1 } | lose 1\n\
+Restart | restart\n\
+Restart | restart;\n\
+Restart | # jump;;#;restart;;# no more\n";
+
+// The text of a row, in which `;` stands for a newline, gives what is shown in the row.
+fn gives(alloc: Global, row: &str) -> Result<(), Fail> {
+    let (want, text) = row.split_once(" | ").ok_or("an event and a text")?;
+    let text = text.replace(alloc, ";", "\n")?;
+    holds(text.len() < 100)?;
+    let events = read(alloc, text.as_bytes())?;
+    let shown = is_shown(alloc, &events, want);
+    drop(events);
+    shown
+}
+
+// There is one event, which is shown so.
+fn is_shown(alloc: Global, events: &Events, want: &str) -> Result<(), Fail> {
+    holds(events.len() == 1)?;
+    shows(alloc, events.event(0), want)
+}
+
 #[test]
 fn every_line(rt: HostRuntime) -> Result<(), Fail> {
-    let alloc = rt.alloc();
-    let rows: [(&[u8], &str); 32] = [
-        (b"client", "Client"),
-        (b"client temp", "ClientTemp"),
-        (b"clock 0", "ClockAll { at: 0 }"),
-        (b"clock server 7200", "ClockServer { at: 7200 }"),
-        (
-            b"clock 1 18446744073709551615",
-            "ClockClient { client: 1, at: 18446744073709551615 }",
-        ),
-        (
-            b"call 1 add x 5",
-            "Call { client: 1, body: Octets { bytes: [1, 44, 27, 10, 1, 120, 0, 0, 5, 0, 0, 0, 0, 0, 0, 0] }, after: None }",
-        ),
-        (
-            b"call 1 get 0z after 10",
-            "Call { client: 1, body: Octets { bytes: [2, 44, 27, 10, 2, 48, 122, 0] }, after: Some(10) }",
-        ),
-        (
-            b"call 1 get after",
-            "Call { client: 1, body: Octets { bytes: [2, 44, 27, 10, 5, 97, 102, 116, 101, 114, 0, 0] }, after: None }",
-        ),
-        (
-            b"call 1 pad 3",
-            "Call { client: 1, body: Octets { bytes: [0, 0, 0] }, after: None }",
-        ),
-        (
-            b"call 1 packed after 2",
-            "Call { client: 1, body: Octets { bytes: [161, 207, 114, 48, 0, 0, 0, 0] }, after: Some(2) }",
-        ),
-        (
-            b"call 2 hex 00aAFf",
-            "Call { client: 2, body: Octets { bytes: [0, 170, 255] }, after: None }",
-        ),
-        (
-            b"call 2 hex - after 3",
-            "Call { client: 2, body: Octets { bytes: [] }, after: Some(3) }",
-        ),
-        (
-            b"call\t1 hex\t01 after\t2",
-            "Call { client: 1, body: Octets { bytes: [1] }, after: Some(2) }",
-        ),
-        (b"salts\t1 0", "Salts { client: 1, count: 0 }"),
-        (b"flush 1", "Flush { client: 1 }"),
-        (b"give 12", "Give { packet: 12 }"),
-        (
-            b"foreign server -",
-            "ForeignServer { bytes: Octets { bytes: [] } }",
-        ),
-        (
-            b"foreign 1 0bAD",
-            "ForeignClient { client: 1, bytes: Octets { bytes: [11, 173] } }",
-        ),
-        (b"work 1", "Work { job: 1 }"),
-        (b"tick server", "TickServer"),
-        (b"tick 1", "TickClient { client: 1 }"),
-        (b"attach server 1", "AttachServer { client: 1 }"),
-        (b"attach 1", "AttachClient { client: 1 }"),
-        (b"ping 1", "Ping { client: 1 }"),
-        (
-            b"salts 1 4294967295",
-            "Salts { client: 1, count: 4294967295 }",
-        ),
-        (b"drop 1 2", "DropAnswer { client: 1, call: 2 }"),
-        (b"renew 1", "Renew { client: 1 }"),
-        (b"end 1", "End { client: 1 }"),
-        (b"lose 1", "Lose { client: 1 }"),
-        (b"restart", "Restart"),
-        (b"restart\n", "Restart"),
-        (b"# jump\n\n#\nrestart\n\n# no more", "Restart"),
-    ];
-    for (text, want) in rows {
-        holds(text.len() < 100)?;
-        let events = read(alloc, text)?;
-        holds(events.len() == 1)?;
-        shows(alloc, events.event(0), want)?;
+    same(EVENTS.lines().count(), 32)?;
+    for row in EVENTS.lines() {
+        gives(rt.alloc(), row)?;
     }
     Ok(())
 }
 
+// The bad line of a text, and the text.
+const BAD: &str = "\
+1 | jump\n\
+2 | client;client x\n\
+4 | client;;# a;call 1 add x 05\n\
+1 |  client\n\
+1 | client \n\
+1 |  \n\
+1 | \tclient\n\
+1 | client\t\n\
+2 | restart;\t;\n\
+1 | give\t\t1\n\
+1 | give \t1\n\
+1 | give\x0b1\n\
+1 | client\r;\n\
+1 | \r;\n\
+1 | give +1\n\
+1 | give -1\n\
+1 | give 18446744073709551616\n\
+1 | give 1 2\n\
+1 | give\n\
+1 | give  1\n\
+1 | give 1\x00\n\
+1 | call 1 hex 123\n\
+1 | call 1 hex 0g\n\
+1 | call 1 hex\n\
+1 | call 1 hex \n\
+1 | call 1 add abcdefghijklmnopqrstuvwxyz0123456 1\n\
+1 | call 1 add X 1\n\
+1 | call 1 add  1\n\
+1 | call 1 pad 1048577\n\
+1 | call 1 pad 1 after\n\
+1 | call 1 packed after 1 2\n\
+1 | call 1 get x after x\n\
+1 | call 1\n\
+1 | clock server 1 2\n\
+1 | clock one 2\n\
+1 | attach client 1\n\
+1 | salts 1 4294967296\n\
+1 | restart 1\n\
+2 | client;jump;leap\n";
+
+// The text of a row has the bad line that the row says.
+fn is_bad(alloc: Global, row: &str) -> Result<(), Fail> {
+    let (line, text) = row.split_once(" | ").ok_or("a line and a text")?;
+    let text = text.replace(alloc, ";", "\n")?;
+    holds(text.len() < 100)?;
+    let line = line.parse::<u32>()?;
+    match read(alloc, text.as_bytes()) {
+        Ok(events) => {
+            drop(events);
+            holds_at(row, false)
+        }
+        Err(fault) => same_at(row, fault, SchedFault::BadLine { line }),
+    }
+}
+
 #[test]
 fn bad_lines(rt: HostRuntime) -> Result<(), Fail> {
-    let alloc = rt.alloc();
-    let rows: [(&[u8], u32); 39] = [
-        (b"jump", 1),
-        (b"client\nclient x", 2),
-        (b"client\n\n# a\ncall 1 add x 05", 4),
-        (b" client", 1),
-        (b"client ", 1),
-        (b" ", 1),
-        (b"\tclient", 1),
-        (b"client\t", 1),
-        (b"restart\n\t\n", 2),
-        (b"give\t\t1", 1),
-        (b"give \t1", 1),
-        (b"give\x0b1", 1),
-        (b"client\r\n", 1),
-        (b"\r\n", 1),
-        (b"give +1", 1),
-        (b"give -1", 1),
-        (b"give 18446744073709551616", 1),
-        (b"give 1 2", 1),
-        (b"give", 1),
-        (b"give  1", 1),
-        (b"give 1\x00", 1),
-        (b"call 1 hex 123", 1),
-        (b"call 1 hex 0g", 1),
-        (b"call 1 hex", 1),
-        (b"call 1 hex ", 1),
-        (b"call 1 add abcdefghijklmnopqrstuvwxyz0123456 1", 1),
-        (b"call 1 add X 1", 1),
-        (b"call 1 add  1", 1),
-        (b"call 1 pad 1048577", 1),
-        (b"call 1 pad 1 after", 1),
-        (b"call 1 packed after 1 2", 1),
-        (b"call 1 get x after x", 1),
-        (b"call 1", 1),
-        (b"clock server 1 2", 1),
-        (b"clock one 2", 1),
-        (b"attach client 1", 1),
-        (b"salts 1 4294967296", 1),
-        (b"restart 1", 1),
-        (b"client\njump\nleap", 2),
-    ];
-    for (text, want) in rows {
-        holds(text.len() < 100)?;
-        match read(alloc, text) {
-            Ok(_) => holds_at("a bad line was read", false)?,
-            Err(fault) => same(fault, SchedFault::BadLine { line: want })?,
-        }
+    same(BAD.lines().count(), 39)?;
+    for row in BAD.lines() {
+        is_bad(rt.alloc(), row)?;
     }
     Ok(())
 }
@@ -160,19 +151,43 @@ fn bad_lines(rt: HostRuntime) -> Result<(), Fail> {
 fn lines_have_their_numbers(rt: HostRuntime) -> Result<(), Fail> {
     let alloc = rt.alloc();
     let events = first_or_second(alloc, b"jump", b"\n# one\nclient\n\nflush 1\n")?;
+    let done = are_on_three_and_five(&events);
+    drop(events);
+    done?;
+    same(count(alloc, b"")?, 0)?;
+    same(count(alloc, b"\n")?, 0)
+}
+
+fn are_on_three_and_five(events: &Events) -> Result<(), Fail> {
     holds(events.len() == 2)?;
-    same((events.line(0), events.line(1)), (3, 5))?;
-    holds(read(alloc, b"")?.is_empty())?;
-    holds(read(alloc, b"\n")?.is_empty())?;
+    same((events.line(0), events.line(1)), (3, 5))
+}
+
+// How many events a text has.
+fn count(alloc: Global, text: &[u8]) -> Result<usize, Fail> {
+    holds(text.len() < 100)?;
+    let events = read(alloc, text)?;
+    let (count, is_empty) = (events.len(), events.is_empty());
+    drop(events);
+    holds(is_empty == (count == 0))?;
+    Ok(count)
+}
+
+#[test]
+fn lines_of_calls(rt: HostRuntime) -> Result<(), Fail> {
+    let alloc = rt.alloc();
     let mut lines = Lines::new(b"#\nadd x 5");
     same(lines.next().map(|(line, _)| line), Some(2))?;
     holds(lines.next().is_none())?;
     holds(call_of(alloc, b"pad 1")?.is_some())?;
     holds(call_of(alloc, b"client")?.is_none())?;
     let longest = call_of(alloc, b"pad 1048576")?.map(|call| call.body.as_slice().len());
-    same(longest, Some(1_048_576))?;
+    same(longest, Some(1_048_576))
+}
+
+#[test]
+fn faults_are_told(rt: HostRuntime) -> Result<(), Fail> {
     let fault = SchedFault::BadLine { line: 7 };
-    tells(alloc, &fault, "line 7 is no event")?;
-    tells(alloc, &SchedFault::Memory, "out of memory")?;
-    Ok(())
+    tells(rt.alloc(), &fault, "line 7 is no event")?;
+    tells(rt.alloc(), &SchedFault::Memory, "out of memory")
 }

@@ -6,7 +6,7 @@ ghost use Rattle.call_script.specs.Scripts.{Spells};
 use call_script::{Script, ScriptFault, read_script};
 use std::alloc::Global;
 use std::test::*;
-use test_asserts::{holds, holds_at, same, tells};
+use test_asserts::{holds, holds_at, same, same_at, tells};
 
 // The first text's calls, or the second's where the first has none.
 fn first_or_second(alloc: Global, first: &[u8], second: &[u8]) -> Result<Script, ScriptFault>
@@ -20,52 +20,83 @@ fn first_or_second(alloc: Global, first: &[u8], second: &[u8]) -> Result<Script,
     }
 }
 
+// The calls of a script: the digits of its body, the call after which it goes, and its line.
+const FIVE: &str = "\
+012c1b0a017800000500000000000000 None 2\n\
+022c1b0a01780000 Some(1) 4\n\
+0000 None 5\n\
+a1cf723000000000 Some(3) 6\n\
+0af0 Some(18446744073709551615) 7\n";
+
+// The call of this place, as a row has it.
+fn told(alloc: Global, script: &Script, place: usize) -> Result<String, Fail> {
+    if place >= script.len() {
+        return Ok(String::from_str(alloc, "none")?);
+    }
+    let body = hex::encode(alloc, script.body(place))?;
+    let (after, line) = (script.after(place), script.line(place));
+    Ok(format!(in alloc; "{body} {after:?} {line}")?)
+}
+
 #[test]
 fn five_calls(rt: HostRuntime) -> Result<(), Fail> {
     let alloc = rt.alloc();
     let text =
         b"# five\nadd x 5\n\nget x after 1\npad\t2\npacked after 3\nhex 0aF0 after 18446744073709551615";
     let script = first_or_second(alloc, b"call 1 add x 5", text)?;
-    let rows: [(&[u8], Option<u64>, u32); 5] = [
-        (b"\x01\x2c\x1b\x0a\x01x\0\0\x05\0\0\0\0\0\0\0", None, 2),
-        (b"\x02\x2c\x1b\x0a\x01x\0\0", Some(1), 4),
-        (b"\0\0", None, 5),
-        (b"\xa1\xcf\x72\x30\0\0\0\0", Some(3), 6),
-        (b"\x0a\xf0", Some(18446744073709551615), 7),
-    ];
-    holds(script.len() == 5)?;
-    for (k, (body, after, line)) in rows.into_iter().enumerate() {
-        same(script.body(k), body)?;
-        same((script.after(k), script.line(k)), (after, line))?;
+    let done = are_five(alloc, &script);
+    drop(script);
+    done?;
+    let none = read_script(alloc, b"")?;
+    let is_empty = none.is_empty();
+    drop(none);
+    holds(is_empty)
+}
+
+fn are_five(alloc: Global, script: &Script) -> Result<(), Fail> {
+    same(script.len(), 5)?;
+    same(FIVE.lines().count(), 5)?;
+    for (place, row) in FIVE.lines().enumerate() {
+        tells(alloc, &told(alloc, script, place)?, row)?;
     }
-    holds(read_script(alloc, b"")?.is_empty())?;
     Ok(())
+}
+
+// The bad line of a text, and the text, in which `;` stands for a newline.
+const BAD: &str = "\
+1 | client\n\
+3 | get x;;add x 05\n\
+1 | get x\r;\n\
+1 | get x after\n\
+1 | get  x\n\
+1 | get\t\tx\n\
+1 | \tget x\n\
+1 | get x\t\n\
+1 | hex 1\n\
+1 | pad 1048577;jump\n";
+
+// The text of a row has the bad line that the row says.
+fn is_bad(alloc: Global, row: &str) -> Result<(), Fail> {
+    let (line, text) = row.split_once(" | ").ok_or("a line and a text")?;
+    let text = text.replace(alloc, ";", "\n")?;
+    holds(text.len() < 100)?;
+    let line = line.parse::<u32>()?;
+    match read_script(alloc, text.as_bytes()) {
+        Ok(script) => {
+            drop(script);
+            holds_at(row, false)
+        }
+        Err(fault) => same_at(row, fault, ScriptFault::BadLine { line }),
+    }
 }
 
 #[test]
 fn bad_lines(rt: HostRuntime) -> Result<(), Fail> {
-    let alloc = rt.alloc();
-    let rows: [(&[u8], u32); 10] = [
-        (b"client", 1),
-        (b"get x\n\nadd x 05", 3),
-        (b"get x\r\n", 1),
-        (b"get x after", 1),
-        (b"get  x", 1),
-        (b"get\t\tx", 1),
-        (b"\tget x", 1),
-        (b"get x\t", 1),
-        (b"hex 1", 1),
-        (b"pad 1048577\njump", 1),
-    ];
-    for (text, want) in rows {
-        holds(text.len() < 100)?;
-        match read_script(alloc, text) {
-            Ok(_) => holds_at("a bad line was read", false)?,
-            Err(fault) => same(fault, ScriptFault::BadLine { line: want })?,
-        }
+    same(BAD.lines().count(), 10)?;
+    for row in BAD.lines() {
+        is_bad(rt.alloc(), row)?;
     }
     let fault = ScriptFault::BadLine { line: 7 };
-    tells(alloc, &fault, "line 7 is no call")?;
-    tells(alloc, &ScriptFault::Memory, "out of memory")?;
-    Ok(())
+    tells(rt.alloc(), &fault, "line 7 is no call")?;
+    tells(rt.alloc(), &ScriptFault::Memory, "out of memory")
 }

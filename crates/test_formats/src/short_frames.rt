@@ -11,7 +11,7 @@ use frame_short::{Deframer, FrameFault, Framer, Next};
 use octets::{Memory, Octets};
 use std::alloc::Global;
 use std::test::*;
-use test_asserts::{holds, same};
+use test_asserts::{holds, holds_at, same, same_at};
 
 // Feeds a piece and copies the packet that comes next, where there is one.
 fn take_packet(
@@ -81,7 +81,46 @@ fn written_and_read(
     read_one(deframer, alloc, &text, into)
 }
 
-// How many packets a stream gives that is fed in pieces of this size, where they are this text; and its fault.
+// The packets that are there, so many at most, are put behind a text: how many there are, and the fault behind them.
+fn drain(
+    deframer: &mut Deframer,
+    alloc: Global,
+    text: &mut Octets,
+    most: usize,
+) -> Result<(usize, Option<FrameFault>), Memory> {
+    let mut count = 0usize;
+    for _ in 0..most {
+        match deframer.next() {
+            Next::Packet(packet) => text.push_all(alloc, packet)?,
+            Next::More => break,
+            Next::Fault(fault) => return Ok((count, Some(fault))),
+        }
+        count = count.saturating_add(1);
+    }
+    Ok((count, None))
+}
+
+// The same of a stream that is fed in pieces of this size.
+fn feed(
+    deframer: &mut Deframer,
+    alloc: Global,
+    stream: &[u8],
+    size: usize,
+    text: &mut Octets,
+) -> Result<(usize, Option<FrameFault>), Memory> {
+    let mut count = 0usize;
+    for piece in stream.chunks(size.max(1)) {
+        deframer.feed(alloc, piece)?;
+        let (more, fault) = drain(deframer, alloc, text, stream.len())?;
+        count = count.saturating_add(more);
+        if fault.is_some() {
+            return Ok((count, fault));
+        }
+    }
+    Ok((count, None))
+}
+
+// How many packets a stream gives that is fed in pieces of this size, whether they are this text, and its fault.
 fn read(
     alloc: Global,
     stream: &[u8],
@@ -90,23 +129,12 @@ fn read(
 ) -> Result<(usize, bool, Option<FrameFault>), Fail> {
     let mut deframer = Deframer::new(alloc);
     let mut text = Octets::new(alloc);
-    let mut count = 0usize;
-    for piece in stream.chunks(size.max(1)) {
-        deframer.feed(alloc, piece)?;
-        for _ in 0..stream.len() {
-            match deframer.next() {
-                Next::Packet(packet) => {
-                    text.push_all(alloc, packet)?;
-                    count = count.saturating_add(1);
-                }
-                Next::More => break,
-                Next::Fault(fault) => {
-                    return Ok((count, text.as_slice() == want, Some(fault)));
-                }
-            }
-        }
-    }
-    Ok((count, text.as_slice() == want, None))
+    let fed = feed(&mut deframer, alloc, stream, size, &mut text);
+    drop(deframer);
+    let same = text.as_slice() == want;
+    drop(text);
+    let (count, fault) = fed?;
+    Ok((count, same, fault))
 }
 
 // Puts a frame of a payload that may have any length.
@@ -118,56 +146,100 @@ fn put(framer: &mut Framer, alloc: Global, payload: &[u8], out: &mut Octets) -> 
     Ok(())
 }
 
-#[test]
-fn frames_are_read_in_any_pieces(rt: HostRuntime) -> Result<(), Fail> {
-    let alloc = rt.alloc();
+// The frames of packets of 504 and 508 bytes.
+fn two_frames(alloc: Global) -> Result<Octets, Fail> {
     let mut stream = Octets::new(alloc);
     let mut framer = Framer::new();
     put(&mut framer, alloc, &[3; 504], &mut stream)?;
     same(stream.as_slice().len(), 505)?;
     put(&mut framer, alloc, &[7; 508], &mut stream)?;
-    let bytes = stream.as_slice();
-    holds(bytes.len() == 1017)?;
-    same(bytes[0], 0x7e)?;
-    same(&bytes[505..509], b"\x7f\x7f\0\0".as_slice())?;
-    let mut want = Octets::copy(alloc, &[3; 504])?;
-    want.push_all(alloc, &[7; 508])?;
+    Ok(stream)
+}
+
+// Their packets, one behind the other.
+fn two_packets(alloc: Global) -> Result<Octets, Fail> {
+    let mut packets = Octets::copy(alloc, &[3; 504])?;
+    packets.push_all(alloc, &[7; 508])?;
+    Ok(packets)
+}
+
+#[test]
+fn frames_have_their_heads(rt: HostRuntime) -> Result<(), Fail> {
+    let stream = two_frames(rt.alloc())?;
+    same(stream.as_slice().len(), 1017)?;
+    same(stream.as_slice().first().copied(), Some(0x7e))?;
+    same(
+        stream.as_slice().get(505..509),
+        Some(b"\x7f\x7f\0\0".as_slice()),
+    )
+}
+
+#[test]
+fn frames_are_read_in_any_pieces(rt: HostRuntime) -> Result<(), Fail> {
+    let stream = two_frames(rt.alloc())?;
+    let want = two_packets(rt.alloc())?;
     for size in [1, 7, 506, 507, 508, 1017] {
-        same(read(alloc, bytes, size, want.as_slice())?, (2, true, None))?;
+        let found = read(rt.alloc(), stream.as_slice(), size, want.as_slice())?;
+        same(found, (2, true, None))?;
+    }
+    Ok(())
+}
+
+// The bytes of a stream, how many packets come, and the fault.
+const STREAMS: &str = " 0 None\n\
+016cfeff 0 None\n\
+016cfeffff 1 None\n\
+7f0100006cfeffff 1 None\n\
+7f000004 0 None\n\
+7f010004 0 Some(TooLong { len: 1048580 })\n\
+006c 0 Some(BadLength { len: 0 })\n\
+7f000000 0 Some(BadLength { len: 0 })\n\
+80 0 Some(BadLength { len: 128 })\n\
+016cfeffffef 1 Some(BadLength { len: 239 })\n";
+
+// What a stream gives that is fed in pieces of this size; each packet is `6cfeffff`.
+fn given(alloc: Global, stream: &[u8], size: usize, due: &str) -> Result<String, Fail> {
+    let want: &[u8] = if due.starts_with('1') {
+        b"\x6c\xfe\xff\xff"
+    } else {
+        b""
+    };
+    let (count, same, fault) = read(alloc, stream, size, want)?;
+    holds_at(due, same)?;
+    Ok(format!(in alloc; "{count} {fault:?}")?)
+}
+
+// The stream of a row gives what the row says.
+fn is_read(alloc: Global, row: &str) -> Result<(), Fail> {
+    let (stream, due) = row.split_once(' ').ok_or("a stream and what it gives")?;
+    let stream = hex::decode(alloc, stream).ok().ok_or("digits")?;
+    for size in [1, 3, 9] {
+        let found = given(alloc, stream.as_slice(), size, due)?;
+        same_at(row, found.as_str(), due)?;
     }
     Ok(())
 }
 
 #[test]
 fn rows_of_streams(rt: HostRuntime) -> Result<(), Fail> {
-    let alloc = rt.alloc();
-    let rows: [(&[u8], usize, Option<FrameFault>); 10] = [
-        (b"", 0, None),
-        (b"\x01\x6c\xfe\xff", 0, None),
-        (b"\x01\x6c\xfe\xff\xff", 1, None),
-        (b"\x7f\x01\0\0\x6c\xfe\xff\xff", 1, None),
-        (b"\x7f\0\0\x04", 0, None),
-        (
-            b"\x7f\x01\0\x04",
-            0,
-            Some(FrameFault::TooLong { len: 1_048_580 }),
-        ),
-        (b"\0\x6c", 0, Some(FrameFault::BadLength { len: 0 })),
-        (b"\x7f\0\0\0", 0, Some(FrameFault::BadLength { len: 0 })),
-        (b"\x80", 0, Some(FrameFault::BadLength { len: 128 })),
-        (
-            b"\x01\x6c\xfe\xff\xff\xef",
-            1,
-            Some(FrameFault::BadLength { len: 239 }),
-        ),
-    ];
-    for (stream, count, fault) in rows {
-        let want: &[u8] = if count == 1 { b"\x6c\xfe\xff\xff" } else { b"" };
-        for size in [1, 3, 9] {
-            same(read(alloc, stream, size, want)?, (count, true, fault))?;
-        }
+    same(STREAMS.lines().count(), 10)?;
+    for row in STREAMS.lines() {
+        is_read(rt.alloc(), row)?;
     }
     Ok(())
+}
+
+// A payload of this byte is written, and read into a packet.
+fn comes_back(
+    framer: &mut Framer,
+    deframer: &mut Deframer,
+    alloc: Global,
+    byte: u8,
+    packet: &mut Octets,
+) -> Result<(), Fail> {
+    let payload = [byte; 88];
+    holds(written_and_read(framer, deframer, alloc, &payload, packet)?)?;
+    same(packet.as_slice(), payload.as_slice())
 }
 
 #[test]
@@ -176,29 +248,40 @@ fn what_is_written_is_read(rt: HostRuntime) -> Result<(), Fail> {
     let mut framer = Framer::new();
     let mut deframer = Deframer::new(alloc);
     let mut packet = Octets::new(alloc);
-    for payload in [[7; 88], [9; 88]] {
-        holds(written_and_read(&mut framer, &mut deframer, alloc, &payload, &mut packet)?)?;
-        same(packet.as_slice(), payload.as_slice())?;
-    }
-    Ok(())
+    comes_back(&mut framer, &mut deframer, alloc, 7, &mut packet)?;
+    comes_back(&mut framer, &mut deframer, alloc, 9, &mut packet)
 }
 
 #[test]
 fn a_fault_stays(rt: HostRuntime) -> Result<(), Fail> {
     let alloc = rt.alloc();
-    let mut framer = Framer::new();
     let mut frame = Octets::new(alloc);
-    framer.frame(alloc, b"\x6c\xfe\xff\xff", &mut frame)?;
+    Framer::new().frame(alloc, b"\x6c\xfe\xff\xff", &mut frame)?;
     same(frame.as_slice(), b"\x01\x6c\xfe\xff\xff".as_slice())?;
     let mut deframer = Deframer::new(alloc);
+    let done = fault_stays(&mut deframer, alloc, frame.as_slice());
+    drop(deframer);
+    done
+}
+
+// A packet comes in two pieces.
+fn takes_one(deframer: &mut Deframer, alloc: Global) -> Result<(), Fail> {
     let mut packet = Octets::new(alloc);
-    holds(!take_packet(&mut deframer, alloc, b"\x01\x6c", &mut packet)?)?;
-    holds(take_packet(&mut deframer, alloc, b"\xfe\xff\xff", &mut packet)?)?;
-    same(packet.as_slice(), b"\x6c\xfe\xff\xff".as_slice())?;
-    deframer.feed(alloc, b"\xff")?;
+    holds(!take_packet(deframer, alloc, b"\x01\x6c", &mut packet)?)?;
+    holds(take_packet(deframer, alloc, b"\xfe\xff\xff", &mut packet)?)?;
+    same(packet.as_slice(), b"\x6c\xfe\xff\xff".as_slice())
+}
+
+// Behind these bytes there is the fault of a first byte of 255.
+fn has_fault(deframer: &mut Deframer, alloc: Global, bytes: &[u8]) -> Result<(), Fail> {
+    deframer.feed(alloc, bytes)?;
     let fault = FrameFault::BadLength { len: 255 };
-    same(deframer.next(), Next::Fault(fault))?;
-    deframer.feed(alloc, frame.as_slice())?;
-    same(deframer.next(), Next::Fault(fault))?;
-    Ok(())
+    same(deframer.next(), Next::Fault(fault))
+}
+
+// Behind a fault no packet of a frame comes.
+fn fault_stays(deframer: &mut Deframer, alloc: Global, frame: &[u8]) -> Result<(), Fail> {
+    takes_one(deframer, alloc)?;
+    has_fault(deframer, alloc, b"\xff")?;
+    has_fault(deframer, alloc, frame)
 }
