@@ -64,36 +64,36 @@ spells_as one other to packets bytes same spells =
 
 -- ---- a clock
 
-told_none : (given : Option (List ℕ)) → IfSome given (λ later. IsSomeAnd given (λ before. later ≡ before ++ []))
-told_none None = tt
-told_none (Some given) = sym (append-nil given)
+given_none : (given : Option (List ℕ)) → IfSome given (λ later. IsSomeAnd given (λ before. later ≡ before ++ []))
+given_none None = tt
+given_none (Some given) = sym (append-nil given)
 
-told_still : (given : Option (List ℕ)) → IfSome given (λ before. length before + 0 < told_max → IsSome given)
-told_still None = tt
-told_still (Some given) = λ few. refl
+given_still : (given : Option (List ℕ)) → IfSome given (λ before. length before + 0 < told_max → IsSome given)
+given_still None = tt
+given_still (Some given) = λ few. refl
 
 pub gave_none : (given : Option (List ℕ)) → Gave [] given given
-gave_none given = record { told = told_none given; goes_on = told_still given }
+gave_none given = record { told = given_none given; goes_on = given_still given }
 
-told_more : (one other : List ℕ) (first middle last : Option (List ℕ)) → Gave one first middle → Gave other middle last
+given_more : (one other : List ℕ) (first middle last : Option (List ℕ)) → Gave one first middle → Gave other middle last
     → IfSome last (λ later. IsSomeAnd first (λ before. later ≡ before ++ (one ++ other)))
-told_more one other first middle None before after = tt
-told_more one other first None (Some last) before after = absurd after.told
-told_more one other None (Some middle) (Some last) before after = absurd before.told
-told_more one other (Some first) (Some middle) (Some last) before after =
+given_more one other first middle None before after = tt
+given_more one other first None (Some last) before after = absurd after.told
+given_more one other None (Some middle) (Some last) before after = absurd before.told
+given_more one other (Some first) (Some middle) (Some last) before after =
     after.told ∙ ap (λ (moments : List ℕ). moments ++ other) before.told ∙ append_assoc first one other
 
-still_told : (one other : List ℕ) (first middle last : Option (List ℕ)) → Gave one first middle → Gave other middle last
+given_on : (one other : List ℕ) (first middle last : Option (List ℕ)) → Gave one first middle → Gave other middle last
     → IfSome first (λ before. length before + length (one ++ other) < told_max → IsSome last)
-still_told one other None middle last before after = tt
-still_told one other (Some first) None last before after =
+given_on one other None middle last before after = tt
+given_on one other (Some first) None last before after =
     λ few. let none : false ≡ true = before.goes_on (omega (arith, few, length-append one other)) in cc
-still_told one other (Some first) (Some middle) last before after =
+given_on one other (Some first) (Some middle) last before after =
     λ few. after.goes_on (omega (arith, few, length-append one other, ap length before.told, length-append first one))
 
 pub gave_more : (one other : List ℕ) (first middle last : Option (List ℕ)) → Gave one first middle → Gave other middle last → Gave (one ++ other) first last
 gave_more one other first middle last before after =
-    record { told = told_more one other first middle last before after; goes_on = still_told one other first middle last before after }
+    record { told = given_more one other first middle last before after; goes_on = given_on one other first middle last before after }
 
 -- ---- a link: nothing yet
 

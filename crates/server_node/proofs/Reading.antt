@@ -108,25 +108,25 @@ passed_by_at ends.Memory = passed_at
 
 -- ---- what a clock gave
 
-told_more : (one other : List ℕ) (first middle last : Option (List ℕ)) → Gave one first middle → Gave other middle last
+given_more : (one other : List ℕ) (first middle last : Option (List ℕ)) → Gave one first middle → Gave other middle last
     → IfSome last (λ later. IsSomeAnd first (λ before. later ≡ before ++ (one ++ other)))
-told_more one other first middle None before after = tt
-told_more one other first None (Some last) before after = absurd after.told
-told_more one other None (Some middle) (Some last) before after = absurd before.told
-told_more one other (Some first) (Some middle) (Some last) before after =
+given_more one other first middle None before after = tt
+given_more one other first None (Some last) before after = absurd after.told
+given_more one other None (Some middle) (Some last) before after = absurd before.told
+given_more one other (Some first) (Some middle) (Some last) before after =
     after.told ∙ ap (λ (moments : List ℕ). moments ++ other) before.told ∙ append_assoc first one other
 
-still_told : (one other : List ℕ) (first middle last : Option (List ℕ)) → Gave one first middle → Gave other middle last
+given_on : (one other : List ℕ) (first middle last : Option (List ℕ)) → Gave one first middle → Gave other middle last
     → IfSome first (λ before. length before + length (one ++ other) < told_max → IsSome last)
-still_told one other None middle last before after = tt
-still_told one other (Some first) None last before after =
+given_on one other None middle last before after = tt
+given_on one other (Some first) None last before after =
     λ few. let none : false ≡ true = before.goes_on (omega (arith, few, length-append one other)) in cc
-still_told one other (Some first) (Some middle) last before after =
+given_on one other (Some first) (Some middle) last before after =
     λ few. after.goes_on (omega (arith, few, length-append one other, ap length before.told, length-append first one))
 
 gave_more : (one : List ℕ) (now : ℕ) (first middle last : Option (List ℕ)) → Gave one first middle → Gave (now ∷ []) middle last → Gave (one ++ now ∷ []) first last
 gave_more one now first middle last before after =
-    record { told = told_more one (now ∷ []) first middle last before after; goes_on = still_told one (now ∷ []) first middle last before after }
+    record { told = given_more one (now ∷ []) first middle last before after; goes_on = given_on one (now ∷ []) first middle last before after }
 
 -- ---- a turn
 

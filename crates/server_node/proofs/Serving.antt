@@ -25,16 +25,16 @@ passed_none : {S V : Type 0} (talk : Talk S V) (told : Option Told) → IfSome t
 passed_none talk None = tt
 passed_none talk (Some told) = record { written = sym (append-nil told.written); came = sym (append-nil told.came); reads = sym (append-nil told.reads) }
 
-told_none : (given : Option (List ℕ)) → IfSome given (λ later. IsSomeAnd given (λ before. later ≡ before ++ []))
-told_none None = tt
-told_none (Some given) = sym (append-nil given)
+given_none : (given : Option (List ℕ)) → IfSome given (λ later. IsSomeAnd given (λ before. later ≡ before ++ []))
+given_none None = tt
+given_none (Some given) = sym (append-nil given)
 
-told_still : (given : Option (List ℕ)) → IfSome given (λ before. length before + 0 < told_max → IsSome given)
-told_still None = tt
-told_still (Some given) = λ few. refl
+given_still : (given : Option (List ℕ)) → IfSome given (λ before. length before + 0 < told_max → IsSome given)
+given_still None = tt
+given_still (Some given) = λ few. refl
 
 gave_none : (given : Option (List ℕ)) → Gave [] given given
-gave_none given = record { told = told_none given; goes_on = told_still given }
+gave_none given = record { told = given_none given; goes_on = given_still given }
 
 answered_none : (left : Option ℕ) → left ≡ with_answered 0 left
 answered_none None = refl
