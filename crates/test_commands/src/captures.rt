@@ -4,7 +4,7 @@ use cipher_modes::Ctr;
 use draws::{Seeded, StepDraw};
 use obfus::{Init, Tag};
 use octets::{Memory, Octets};
-use secret_relay::Form;
+use secret_relay::{Form, Relay, RelayFault};
 use std::alloc::Global;
 
 /// The secret of the rows.
@@ -16,8 +16,37 @@ pub(crate) fn start(tag: Tag) -> Init {
     Init::make_with(&mut draw, tag, 2, &SECRET)
 }
 
+/// The first bytes of a client that starts so.
+pub(crate) fn wire_of(tag: Tag) -> [u8; 64] {
+    let init = start(tag);
+    let wire = init.wire;
+    drop(init);
+    wire
+}
+
+/// Bytes of the client come to a relay. Nothing is said of what it does with them, as what is known of a relay goes through each
+/// line of a test; `relays` has tries of what a relay promises.
+pub(crate) fn up(
+    relay: &mut Relay,
+    alloc: Global,
+    piece: &[u8],
+    out: &mut Octets,
+) -> Result<(), RelayFault> {
+    relay.up(alloc, piece, out)
+}
+
+/// The same of the server.
+pub(crate) fn down(
+    relay: &mut Relay,
+    alloc: Global,
+    piece: &[u8],
+    out: &mut Octets,
+) -> Result<(), RelayFault> {
+    relay.down(alloc, piece, out)
+}
+
 /// A packet of so many bytes, which differ.
-pub(crate) fn packet(alloc: Global, len: usize) -> Result<Octets, Memory> {
+fn packet(alloc: Global, len: usize) -> Result<Octets, Memory> {
     let mut bytes = Vec::with_capacity(alloc, len)?;
     for i in 0..len {
         bytes.push((i % 251) as u8)?;
@@ -25,13 +54,14 @@ pub(crate) fn packet(alloc: Global, len: usize) -> Result<Octets, Memory> {
     Ok(Octets::from(bytes))
 }
 
-/// The frame of a packet.
-pub(crate) fn put(
-    alloc: Global,
-    form: Form,
-    packet: &[u8],
-    into: &mut Octets,
-) -> Result<(), Memory> {
+/// The frame of a packet of so many bytes.
+pub(crate) fn put(alloc: Global, form: Form, len: usize, into: &mut Octets) -> Result<(), Memory> {
+    let packet = packet(alloc, len)?;
+    put_packet(alloc, form, packet.as_slice(), into)
+}
+
+// The frame of a packet.
+fn put_packet(alloc: Global, form: Form, packet: &[u8], into: &mut Octets) -> Result<(), Memory> {
     let Ok(len) = u32::try_from(packet.len()) else {
         return Err(Memory);
     };

@@ -143,38 +143,34 @@ fn living(calls: &Calls, n: u64) -> Result<Option<Living>, Fail> {
     Ok(calls.living(CallNo { n }))
 }
 
-// Four calls, of which the last two are to execute after the first; and their numbers.
-fn four_calls(alloc: Global) -> Result<(Calls, [Option<CallNo>; 4]), Fail> {
-    let mut calls = Calls::new(alloc)?;
-    let first = add(&mut calls, alloc, b"one.", None)?;
-    let second = add(&mut calls, alloc, b"two.", None)?;
-    let third = add(&mut calls, alloc, b"tri.", Some(CallNo { n: 1 }))?;
-    let fourth = add_beside(&mut calls, alloc, 3)?;
-    Ok((calls, [Some(first), Some(second), Some(third), fourth]))
+// Four calls, of which the last two are to execute after the first: their numbers.
+fn four_calls(calls: &mut Calls, alloc: Global) -> Result<[Option<CallNo>; 4], Fail> {
+    let first = add(calls, alloc, b"one.", None)?;
+    let second = add(calls, alloc, b"two.", None)?;
+    let third = add(calls, alloc, b"tri.", Some(CallNo { n: 1 }))?;
+    let fourth = add_beside(calls, alloc, 3)?;
+    Ok([Some(first), Some(second), Some(third), fourth])
 }
 
-// The first two are sent as 4 and 8, and the third isn't, as 8 again; and whether each was sent.
-fn two_sent(alloc: Global) -> Result<(Calls, [bool; 3]), Fail> {
-    let (mut calls, _) = four_calls(alloc)?;
-    let first = send_first(&mut calls, alloc, message(4, 1), 7)?;
-    let second = send(&mut calls, alloc, CallNo { n: 2 }, message(8, 3), 0)?;
-    let third = send(&mut calls, alloc, CallNo { n: 3 }, message(8, 5), 0)?;
-    Ok((calls, [first, second, third]))
+// The first two are sent as 4 and 8, and the third isn't, as 8 again: whether each was sent.
+fn two_sent(calls: &mut Calls, alloc: Global) -> Result<[bool; 3], Fail> {
+    four_calls(calls, alloc)?;
+    let first = send_first(calls, alloc, message(4, 1), 7)?;
+    let second = send(calls, alloc, CallNo { n: 2 }, message(8, 3), 0)?;
+    let third = send(calls, alloc, CallNo { n: 3 }, message(8, 5), 0)?;
+    Ok([first, second, third])
 }
 
-// The least outstanding call is answered then; and which one that was.
-fn one_done(alloc: Global) -> Result<(Calls, Option<CallNo>), Fail> {
-    let (mut calls, _) = two_sent(alloc)?;
+// The least outstanding call is answered then: which one that was.
+fn one_done(calls: &mut Calls, alloc: Global) -> Result<Option<CallNo>, Fail> {
+    two_sent(calls, alloc)?;
     let done = Octets::copy(alloc, b"yes.")?;
-    let call = answer_least(&mut calls, Fate::Done(done));
-    Ok((calls, call))
+    Ok(answer_least(calls, Fate::Done(done)))
 }
 
-#[test]
-fn calls_are_numbered(rt: HostRuntime) -> Result<(), Fail> {
-    let (calls, numbers) = four_calls(rt.alloc())?;
+fn are_numbered(calls: &mut Calls, alloc: Global) -> Result<(), Fail> {
     same(
-        numbers,
+        four_calls(calls, alloc)?,
         [
             Some(CallNo { n: 1 }),
             Some(CallNo { n: 2 }),
@@ -183,41 +179,57 @@ fn calls_are_numbered(rt: HostRuntime) -> Result<(), Fail> {
         ],
     )?;
     same(
-        (body(&calls, 3)?, after(&calls, 3)?, after(&calls, 4)?),
+        (body(calls, 3)?, after(calls, 3)?, after(calls, 4)?),
         (
             b"tri.".as_slice(),
             Some(CallNo { n: 1 }),
             Some(CallNo { n: 1 }),
         ),
-    )?;
-    Ok(())
+    )
+}
+
+#[test]
+fn calls_are_numbered(rt: HostRuntime) -> Result<(), Fail> {
+    let mut calls = Calls::new(rt.alloc())?;
+    let done = are_numbered(&mut calls, rt.alloc());
+    drop(calls);
+    done
+}
+
+fn rise(calls: &mut Calls, alloc: Global) -> Result<(), Fail> {
+    same(two_sent(calls, alloc)?, [true, true, false])?;
+    same(
+        (calls.living_at(0), calls.living_at(1), calls.living_at(2)),
+        (Some(4), Some(8), None),
+    )
 }
 
 #[test]
 fn numbers_of_messages_rise(rt: HostRuntime) -> Result<(), Fail> {
-    let (calls, sent) = two_sent(rt.alloc())?;
-    same(sent, [true, true, false])?;
+    let mut calls = Calls::new(rt.alloc())?;
+    let done = rise(&mut calls, rt.alloc());
+    drop(calls);
+    done
+}
+
+fn is_done(calls: &mut Calls, alloc: Global) -> Result<(), Fail> {
+    same(one_done(calls, alloc)?, Some(CallNo { n: 1 }))?;
     same(
-        (calls.living_at(0), calls.living_at(1), calls.living_at(2)),
-        (Some(4), Some(8), None),
-    )?;
-    Ok(())
+        (state(calls, 1)?, state(calls, 2)?, state(calls, 3)?),
+        (CallState::Done(b"yes."), CallState::Sent, CallState::Queued),
+    )
 }
 
 #[test]
 fn an_answered_call_is_done(rt: HostRuntime) -> Result<(), Fail> {
-    let (calls, answered) = one_done(rt.alloc())?;
-    same(answered, Some(CallNo { n: 1 }))?;
-    same(
-        (state(&calls, 1)?, state(&calls, 2)?, state(&calls, 3)?),
-        (CallState::Done(b"yes."), CallState::Sent, CallState::Queued),
-    )?;
-    Ok(())
+    let mut calls = Calls::new(rt.alloc())?;
+    let done = is_done(&mut calls, rt.alloc());
+    drop(calls);
+    done
 }
 
-#[test]
-fn an_answered_call_is_outstanding_no_more(rt: HostRuntime) -> Result<(), Fail> {
-    let (calls, _) = one_done(rt.alloc())?;
+fn is_outstanding_no_more(calls: &mut Calls, alloc: Global) -> Result<(), Fail> {
+    one_done(calls, alloc)?;
     same(
         (
             calls.living_at(0),
@@ -229,14 +241,21 @@ fn an_answered_call_is_outstanding_no_more(rt: HostRuntime) -> Result<(), Fail> 
     )?;
     same(
         (
-            living(&calls, 1)?,
-            living(&calls, 2)?,
+            living(calls, 1)?,
+            living(calls, 2)?,
             calls.members(Group::Queued),
             calls.members(Group::Outstanding),
         ),
         (None, Some(message(8, 3)), 2, 1),
-    )?;
-    Ok(())
+    )
+}
+
+#[test]
+fn an_answered_call_is_outstanding_no_more(rt: HostRuntime) -> Result<(), Fail> {
+    let mut calls = Calls::new(rt.alloc())?;
+    let done = is_outstanding_no_more(&mut calls, rt.alloc());
+    drop(calls);
+    done
 }
 
 // That a call is to go alone.
@@ -245,54 +264,58 @@ const ALONE: Flags = Flags {
     dropping: false,
 };
 
-// The call that is outstanding is marked; and what its flags are then.
-fn one_marked(alloc: Global) -> Result<(Calls, Option<Flags>), Fail> {
-    let (mut calls, _) = one_done(alloc)?;
-    let flags = mark(&mut calls, 8, ALONE);
-    Ok((calls, flags))
+// The call that is outstanding is marked: what its flags are then.
+fn one_marked(calls: &mut Calls, alloc: Global) -> Result<Option<Flags>, Fail> {
+    one_done(calls, alloc)?;
+    Ok(mark(calls, 8, ALONE))
 }
 
-// It isn't known what became of it then; and which call that is.
-fn one_unknown(alloc: Global) -> Result<(Calls, Option<CallNo>), Fail> {
-    let (mut calls, _) = one_marked(alloc)?;
-    let call = answer(&mut calls, 8, Fate::Unknown(Cause::Session));
-    Ok((calls, call))
+// It isn't known what became of it then: which call that is.
+fn one_unknown(calls: &mut Calls, alloc: Global) -> Result<Option<CallNo>, Fail> {
+    one_marked(calls, alloc)?;
+    Ok(answer(calls, 8, Fate::Unknown(Cause::Session)))
+}
+
+fn goes_alone(calls: &mut Calls, alloc: Global) -> Result<(), Fail> {
+    same(one_marked(calls, alloc)?, Some(ALONE))?;
+    same(
+        (calls.member(Group::Alone, 0), calls.member(Group::Alone, 1)),
+        (Some(CallNo { n: 2 }), None),
+    )
 }
 
 #[test]
 fn a_marked_call_goes_alone(rt: HostRuntime) -> Result<(), Fail> {
-    let (calls, flags) = one_marked(rt.alloc())?;
-    same(flags, Some(ALONE))?;
+    let mut calls = Calls::new(rt.alloc())?;
+    let done = goes_alone(&mut calls, rt.alloc());
+    drop(calls);
+    done
+}
+
+fn goes_no_more(calls: &mut Calls, alloc: Global) -> Result<(), Fail> {
+    same(one_unknown(calls, alloc)?, Some(CallNo { n: 2 }))?;
     same(
-        (calls.member(Group::Alone, 0), calls.member(Group::Alone, 1)),
-        (Some(CallNo { n: 2 }), None),
-    )?;
-    Ok(())
+        (calls.members(Group::Alone), state(calls, 2)?),
+        (0, CallState::Unknown(Cause::Session)),
+    )
 }
 
 #[test]
 fn a_call_that_is_decided_goes_no_more(rt: HostRuntime) -> Result<(), Fail> {
-    let (calls, call) = one_unknown(rt.alloc())?;
-    same(call, Some(CallNo { n: 2 }))?;
-    same(
-        (calls.members(Group::Alone), state(&calls, 2)?),
-        (0, CallState::Unknown(Cause::Session)),
-    )?;
-    Ok(())
+    let mut calls = Calls::new(rt.alloc())?;
+    let done = goes_no_more(&mut calls, rt.alloc());
+    drop(calls);
+    done
 }
 
-// A call that is sent as 4 under the salt 0.
-fn one_sent(alloc: Global) -> Result<(Calls, bool), Fail> {
-    let mut calls = Calls::new(alloc)?;
-    add(&mut calls, alloc, b"one.", None)?;
-    let sent = send_first(&mut calls, alloc, message(4, 1), 0)?;
-    Ok((calls, sent))
+// A call that is sent as 4 under the salt 0: whether it was.
+fn one_sent(calls: &mut Calls, alloc: Global) -> Result<bool, Fail> {
+    add(calls, alloc, b"one.", None)?;
+    Ok(send_first(calls, alloc, message(4, 1), 0)?)
 }
 
 // A message that was sent under 0 is sent under 0, 5, 0, 6 and 5.
-#[test]
-fn salts_of_a_name(rt: HostRuntime) -> Result<(), Fail> {
-    let alloc = rt.alloc();
+fn has_salts(calls: &mut Calls, alloc: Global) -> Result<(), Fail> {
     let rows = [
         (0, Under::Zero),
         (5, Under::One(5)),
@@ -300,65 +323,68 @@ fn salts_of_a_name(rt: HostRuntime) -> Result<(), Fail> {
         (6, Under::More),
         (5, Under::More),
     ];
-    let (mut calls, _) = one_sent(alloc)?;
+    one_sent(calls, alloc)?;
     for (salt, under) in rows {
-        same(again(&mut calls, alloc, salt)?, Some(under))?;
+        same(again(calls, alloc, salt)?, Some(under))?;
     }
     Ok(())
 }
 
-// It is sent under two more salts, is queued, and is sent as 8 under the second of them; and whether it was sent both
-// times.
-fn sent_anew(alloc: Global) -> Result<(Calls, bool), Fail> {
-    let (mut calls, first) = one_sent(alloc)?;
-    again(&mut calls, alloc, 5)?;
-    again(&mut calls, alloc, 6)?;
-    answer(&mut calls, 4, Fate::Queue);
-    let second = send_first(&mut calls, alloc, message(8, 3), 6)?;
-    Ok((calls, first && second))
+#[test]
+fn salts_of_a_name(rt: HostRuntime) -> Result<(), Fail> {
+    let mut calls = Calls::new(rt.alloc())?;
+    let done = has_salts(&mut calls, rt.alloc());
+    drop(calls);
+    done
 }
 
-// Under which salts it was sent since then.
-fn under_anew(alloc: Global) -> Result<(bool, Option<Under>), Fail> {
-    let (mut calls, sent) = sent_anew(alloc)?;
-    Ok((sent, again(&mut calls, alloc, 6)?))
+// It is sent under two more salts, is queued, and is sent as 8 under the second of them: whether it was sent both times.
+fn sent_anew(calls: &mut Calls, alloc: Global) -> Result<bool, Fail> {
+    let first = one_sent(calls, alloc)?;
+    again(calls, alloc, 5)?;
+    again(calls, alloc, 6)?;
+    answer(calls, 4, Fate::Queue);
+    let second = send_first(calls, alloc, message(8, 3), 6)?;
+    Ok(first && second)
 }
 
-// It is held then.
-fn held_anew(alloc: Global) -> Result<Calls, Fail> {
-    let (mut calls, _) = sent_anew(alloc)?;
-    answer(&mut calls, 8, Fate::Hold);
-    Ok(calls)
+// Whether it was, and under which salts it was sent since then.
+fn under_anew(calls: &mut Calls, alloc: Global) -> Result<(bool, Option<Under>), Fail> {
+    let sent = sent_anew(calls, alloc)?;
+    Ok((sent, again(calls, alloc, 6)?))
 }
 
 #[test]
 fn a_new_name_has_no_old_salts(rt: HostRuntime) -> Result<(), Fail> {
-    same(under_anew(rt.alloc())?, (true, Some(Under::One(6))))?;
-    Ok(())
+    let mut calls = Calls::new(rt.alloc())?;
+    let under = under_anew(&mut calls, rt.alloc());
+    drop(calls);
+    same(under?, (true, Some(Under::One(6))))
+}
+
+// It is held then.
+fn is_held(calls: &mut Calls, alloc: Global) -> Result<(), Fail> {
+    sent_anew(calls, alloc)?;
+    answer(calls, 8, Fate::Hold);
+    same(
+        (calls.owner(4), calls.owner(8), calls.member(Group::Held, 0)),
+        (None, None, Some(CallNo { n: 1 })),
+    )
 }
 
 #[test]
 fn a_held_call_has_no_name(rt: HostRuntime) -> Result<(), Fail> {
-    let calls = held_anew(rt.alloc())?;
-    same(
-        (calls.owner(4), calls.owner(8), calls.member(Group::Held, 0)),
-        (None, None, Some(CallNo { n: 1 })),
-    )?;
-    Ok(())
+    let mut calls = Calls::new(rt.alloc())?;
+    let done = is_held(&mut calls, rt.alloc());
+    drop(calls);
+    done
 }
 
-// Calls that are owed acknowledgements of the numbers below this one.
-fn owed(alloc: Global, count: u64) -> Result<Calls, Memory> {
-    let mut calls = Calls::new(alloc)?;
-    for number in 0..count {
+// The acknowledgements of 8,193 numbers from 0 on are owed.
+fn are_owed(calls: &mut Calls) -> Result<(), Fail> {
+    for number in 0..8_193 {
         calls.push_ack(number);
     }
-    Ok(calls)
-}
-
-#[test]
-fn acknowledgements_push_out_the_oldest(rt: HostRuntime) -> Result<(), Fail> {
-    let mut calls = owed(rt.alloc(), 8_193)?;
     same(
         (
             calls.acks(),
@@ -369,17 +395,23 @@ fn acknowledgements_push_out_the_oldest(rt: HostRuntime) -> Result<(), Fail> {
         (8_192, Some(1), Some(8_192), None),
     )?;
     calls.clear_acks();
-    same(calls.acks(), 0)?;
-    Ok(())
+    same(calls.acks(), 0)
 }
 
-// Calls that remember packets of the numbers below this one, each with one message whose number is greater by 100.
-fn remembering(alloc: Global, count: u64) -> Result<Calls, Memory> {
-    let mut calls = Calls::new(alloc)?;
+#[test]
+fn acknowledgements_push_out_the_oldest(rt: HostRuntime) -> Result<(), Fail> {
+    let mut calls = Calls::new(rt.alloc())?;
+    let done = are_owed(&mut calls);
+    drop(calls);
+    done
+}
+
+// Packets of the numbers below this one are remembered, each with one message whose number is greater by 100.
+fn remember(calls: &mut Calls, alloc: Global, count: u64) -> Result<(), Memory> {
     for outer in 0..count {
         calls.remember(outer, IdList::copy(alloc, &[outer.wrapping_add(100)])?);
     }
-    Ok(calls)
+    Ok(())
 }
 
 // The messages in a packet that is remembered.
@@ -390,14 +422,20 @@ fn inner(calls: &Calls, outer: u64) -> Option<&[u64]> {
     }
 }
 
-#[test]
-fn packets_push_out_the_oldest(rt: HostRuntime) -> Result<(), Fail> {
-    let mut calls = remembering(rt.alloc(), 65)?;
+fn are_pushed_out(calls: &mut Calls, alloc: Global) -> Result<(), Fail> {
+    remember(calls, alloc, 65)?;
     same(
-        (inner(&calls, 0), inner(&calls, 1), inner(&calls, 64)),
+        (inner(calls, 0), inner(calls, 1), inner(calls, 64)),
         (None, Some([101].as_slice()), Some([164].as_slice())),
     )?;
     calls.forget_packets();
-    same(inner(&calls, 64), None)?;
-    Ok(())
+    same(inner(calls, 64), None)
+}
+
+#[test]
+fn packets_push_out_the_oldest(rt: HostRuntime) -> Result<(), Fail> {
+    let mut calls = Calls::new(rt.alloc())?;
+    let done = are_pushed_out(&mut calls, rt.alloc());
+    drop(calls);
+    done
 }

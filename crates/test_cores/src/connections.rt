@@ -62,26 +62,40 @@ fn ended(
 ) -> Result<(ConnEnd, MemNet), Fail>
     requires { left.old ≢ Some 0 }
 {
+    let mut clock = ListClock::new(alloc, &[Moment::new(0)])?;
     let mut links = Vec::new(alloc);
     links.push(link)?;
     let mut net = MemNet::new(alloc, links, &[], 8)?;
     let Linked::Link(link) = net.accept() else {
         return Err(Fail::new("no link"));
     };
+    let (mut link, end) = spoken(alloc, seal, Conn::new(link), &mut clock, left);
+    link.close();
+    net.done(link);
+    Ok((end, net))
+}
+
+// What such a connection came to, and its link again. Nothing here may fail, so that the server is let go of at one place.
+fn spoken(
+    alloc: Global,
+    seal: MtSeal,
+    conn: Conn<MemLink>,
+    clock: &mut ListClock,
+    left: &mut Option<u64>,
+) -> (MemLink, ConnEnd)
+    requires { left.old ≢ Some 0 }
+{
     let mut server = Server::new(alloc, seal);
     let mut draw = StepDraw::new();
+    let mut service = Regs::fresh(alloc);
     let mut desk = Plain {
         server: &mut server,
         draw: &mut draw,
     };
-    let mut service = Regs::fresh(alloc);
-    let mut clock = ListClock::new(alloc, &[Moment::new(0)])?;
-    let conn = Conn::new(link);
-    let (link, end) = serve_one(alloc, conn, &mut desk, &mut service, &mut clock, left);
-    let mut link = link;
-    link.close();
-    net.done(link);
-    Ok((end, net))
+    let (link, end) = serve_one(alloc, conn, &mut desk, &mut service, clock, left);
+    drop(server);
+    drop(service);
+    (link, end)
 }
 
 // What was written over the connection of a net.

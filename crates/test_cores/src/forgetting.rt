@@ -92,8 +92,12 @@ fn dropped(alloc: Global) -> Result<(Option<DroppedReply>, usize), Memory> {
 fn all_that_is_kept_is_said_again(rt: HostRuntime) -> Result<(), Fail> {
     let alloc = rt.alloc();
     let standing = answered(alloc)?;
-    same(said_again(alloc, &standing)?.len(), 2)?;
-    Ok(())
+    let again = said_again(alloc, &standing);
+    drop(standing);
+    let again = again?;
+    let count = again.len();
+    drop(again);
+    same(count, 2)
 }
 
 #[test]
@@ -119,19 +123,21 @@ fn sole(owing: &OutgoingMessages) -> &[u8] {
 #[test]
 fn a_request_to_drop_is_answered(rt: HostRuntime) -> Result<(), Fail> {
     let told = told(rt.alloc())?;
-    same(
+    let done = same(
         sole(&told),
         b"\x01\x6d\x5c\xf3\x0c\0\0\0\0\0\0\0\xb7\xd8\x3a\xa4\x09\0\0\0\0\0\0\0\x03\0\0\0\x10\0\0\0".as_slice(),
-    )?;
-    Ok(())
+    );
+    drop(told);
+    done
 }
 
 #[test]
 fn states_are_told(rt: HostRuntime) -> Result<(), Fail> {
     let states = states(rt.alloc())?;
-    same(
+    let done = same(
         sole(&states),
         b"\x7d\xb5\xde\x04\x0c\0\0\0\0\0\0\0\x04\x01\x64\x02\x03\0\0\0".as_slice(),
-    )?;
-    Ok(())
+    );
+    drop(states);
+    done
 }

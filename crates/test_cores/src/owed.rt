@@ -70,9 +70,12 @@ fn sizes(outs: &Outs) -> (usize, Option<(u64, u64, usize)>) {
 #[test]
 fn three_things_go_in_one_packet(rt: HostRuntime) -> Result<(), Fail> {
     let seal = ClearSeal::new(ring(rt.alloc(), "perm")?);
-    let outs = sent(rt.alloc(), &seal)?;
-    same(sizes(&outs), (1, Some((KEY_ID, 9, 216))))?;
-    Ok(())
+    let outs = sent(rt.alloc(), &seal);
+    drop(seal);
+    let outs = outs?;
+    let sizes = sizes(&outs);
+    drop(outs);
+    same(sizes, (1, Some((KEY_ID, 9, 216))))
 }
 
 fn opened(alloc: Global, seal: &ClearSeal, packet: &[u8]) -> Result<Envelope, Fail> {
@@ -85,27 +88,33 @@ fn opened(alloc: Global, seal: &ClearSeal, packet: &[u8]) -> Result<Envelope, Fa
 // The envelope in the first packet.
 fn first_opened(alloc: Global) -> Result<Envelope, Fail> {
     let seal = ClearSeal::new(ring(alloc, "perm")?);
-    let outs = sent(alloc, &seal)?;
-    match first(&outs) {
-        Some((_, _, packet)) => opened(alloc, &seal, packet),
+    let envelope = first_under(alloc, &seal);
+    drop(seal);
+    envelope
+}
+
+fn first_under(alloc: Global, seal: &ClearSeal) -> Result<Envelope, Fail> {
+    let outs = sent(alloc, seal)?;
+    let envelope = match first(&outs) {
+        Some((_, _, packet)) => opened(alloc, seal, packet),
         None => Err(Fail::new("no packet")),
-    }
+    };
+    drop(outs);
+    envelope
 }
 
 #[test]
 fn they_are_named_as_the_header_says(rt: HostRuntime) -> Result<(), Fail> {
     let envelope = first_opened(rt.alloc())?;
-    same(
-        (
-            envelope.key,
-            envelope.salt,
-            envelope.session,
-            envelope.number,
-            envelope.seq,
-        ),
-        (KEY_ID, HEADER.salt, 9, 15, 2),
-    )?;
-    Ok(())
+    let names = (
+        envelope.key,
+        envelope.salt,
+        envelope.session,
+        envelope.number,
+        envelope.seq,
+    );
+    drop(envelope);
+    same(names, (KEY_ID, HEADER.salt, 9, 15, 2))
 }
 
 #[test]
@@ -113,8 +122,9 @@ fn they_are_a_container(rt: HostRuntime) -> Result<(), Fail> {
     let body =
         b"\xdc\xf8\xf1\x73\x03\0\0\0\x07\0\0\0\0\0\0\0\x01\0\0\0\x1c\0\0\0\x08\x09\xc2\x9e\x04\0\0\0\0\0\0\0\x07\0\0\0\0\0\0\0\x08\x07\x06\x05\x04\x03\x02\x01\x09\0\0\0\0\0\0\0\x02\0\0\0\x1c\0\0\0\x7b\x44\xab\xed\x04\0\0\0\0\0\0\0\x01\0\0\0\x30\0\0\0\x08\x07\x06\x05\x04\x03\x02\x01\x0d\0\0\0\0\0\0\0\x03\0\0\0\x18\0\0\0\x01\x6d\x5c\xf3\x08\0\0\0\0\0\0\0answered in.";
     let envelope = first_opened(rt.alloc())?;
-    same(envelope.body.as_slice(), body.as_slice())?;
-    Ok(())
+    let done = same(envelope.body.as_slice(), body.as_slice());
+    drop(envelope);
+    done
 }
 
 // What a server answers to messages of an accepted session, and the number and the seq of the last, which is a result.
@@ -157,57 +167,46 @@ fn part(owing: &OutgoingMessages, place: usize) -> Option<(u64, u32, &[u8])> {
     Some((part.number, part.seq, part.body))
 }
 
-#[test]
-fn what_is_said_is_spelt(rt: HostRuntime) -> Result<(), Fail> {
-    let rows: [(usize, u64, u32, &[u8]); 8] = [
-        (
-            0,
-            7,
-            0,
-            b"\x59\xb4\xd6\x62\x15\xc4\xb5\x1c\x02\0\0\0\x08\0\0\0\0\0\0\0\x0c\0\0\0\0\0\0\0",
-        ),
-        (
-            1,
-            9,
-            0,
-            b"\x11\xf8\xef\xa7\x04\0\0\0\0\0\0\0\x01\0\0\0\x20\0\0\0",
-        ),
-        (
-            2,
-            13,
-            0,
-            b"\xc5\x73\x77\x34\x08\0\0\0\0\0\0\0\x03\0\0\0\0\0\0\0",
-        ),
-        (
-            3,
-            17,
-            0,
-            b"\x95\x08\x50\xae\x08\0\0\0\0\0\0\0\0\0\0\0\x01\0\0\0\0\0\0\0\x10\x0e\0\0\x05\0\0\0\0\0\0\0",
-        ),
-        (
-            4,
-            21,
-            0,
-            b"\x7d\xb5\xde\x04\x08\0\0\0\0\0\0\0\x02\x01\x04\0",
-        ),
-        (5, 25, 0, b"\xfc\x45\x20\xe2\x0a\0\0\0\0\0\0\0"),
-        (6, 29, 0, b"\xc9\x50\xd3\x62\x0b\0\0\0\0\0\0\0"),
-        (7, 33, 1, b"\x01\x6d\x5c\xf3\x08\0\0\0\0\0\0\0done"),
-    ];
-    let (owing, _, _) = first_answers(rt.alloc())?;
-    for (place, number, seq, body) in rows {
-        same(part(&owing, place), Some((number, seq, body)))?;
+// The number and the seq of each message that is owed, and its body in hexadecimal digits.
+const SPELT: &str = "\
+7 0 59b4d66215c4b51c0200000008000000000000000c00000000000000\n\
+9 0 11f8efa704000000000000000100000020000000\n\
+13 0 c573773408000000000000000300000000000000\n\
+17 0 950850ae0800000000000000000000000100000000000000100e00000500000000000000\n\
+21 0 7db5de04080000000000000002010400\n\
+25 0 fc4520e20a00000000000000\n\
+29 0 c950d3620b00000000000000\n\
+33 1 016d5cf30800000000000000646f6e65\n";
+
+// The message at a place, as a row has it.
+fn told(alloc: Global, owing: &OutgoingMessages, place: usize) -> Result<String, Fail> {
+    let (number, seq, body) = part(owing, place).ok_or("no message")?;
+    let body = hex::encode(alloc, body)?;
+    Ok(format!(in alloc; "{number} {seq} {body}")?)
+}
+
+fn are_spelt(alloc: Global, owing: &OutgoingMessages) -> Result<(), Fail> {
+    same(SPELT.lines().count(), 8)?;
+    for (place, row) in SPELT.lines().enumerate() {
+        same(told(alloc, owing, place)?.as_str(), row)?;
     }
     Ok(())
 }
 
 #[test]
+fn what_is_said_is_spelt(rt: HostRuntime) -> Result<(), Fail> {
+    let (owing, _, _) = first_answers(rt.alloc())?;
+    let done = are_spelt(rt.alloc(), &owing);
+    drop(owing);
+    done
+}
+
+#[test]
 fn what_is_said_is_counted(rt: HostRuntime) -> Result<(), Fail> {
     let (owing, number, seq) = first_answers(rt.alloc())?;
-    same((owing.len(), number, seq), (8, 33, 1))?;
-    same(
-        (owing.is_empty(), owing.has_said(33), owing.has_said(8)),
-        (false, true, false),
-    )?;
-    Ok(())
+    let len = owing.len();
+    let told = (owing.is_empty(), owing.has_said(33), owing.has_said(8));
+    drop(owing);
+    same((len, number, seq), (8, 33, 1))?;
+    same(told, (false, true, false))
 }

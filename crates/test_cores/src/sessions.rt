@@ -53,25 +53,40 @@ fn first_packet(outs: &Outs) -> &[u8] {
 #[test]
 fn a_session_heard_first_owes_168_bytes(rt: HostRuntime) -> Result<(), Fail> {
     let seal = MtSeal::new(ring(rt.alloc(), "perm")?);
-    let outs = sent(rt.alloc(), &seal)?;
-    same((outs.as_slice().len(), first_packet(&outs).len()), (1, 168))?;
-    Ok(())
+    let outs = sent(rt.alloc(), &seal);
+    drop(seal);
+    let outs = outs?;
+    let sizes = (outs.as_slice().len(), first_packet(&outs).len());
+    drop(outs);
+    same(sizes, (1, 168))
 }
 
 // The session, the number and the seq of the envelope in a packet.
 fn named(alloc: Global, seal: &MtSeal, packet: &[u8]) -> Result<(u64, u64, u32), Fail> {
     match seal.unseal(alloc, Moment::new(0), Dir::Down, packet) {
-        Opened::Envelope(envelope) => Ok((envelope.session, envelope.number, envelope.seq)),
+        Opened::Envelope(envelope) => {
+            let names = (envelope.session, envelope.number, envelope.seq);
+            drop(envelope);
+            Ok(names)
+        }
         Opened::Refused(_) | Opened::Memory => Err(Fail::new("the packet doesn't open")),
     }
+}
+
+// Those of the envelope in the first packet that a session sends.
+fn first_named(alloc: Global, seal: &MtSeal) -> Result<(u64, u64, u32), Fail> {
+    let outs = sent(alloc, seal)?;
+    let names = named(alloc, seal, first_packet(&outs));
+    drop(outs);
+    names
 }
 
 #[test]
 fn what_a_session_says_first_has_its_names(rt: HostRuntime) -> Result<(), Fail> {
     let seal = MtSeal::new(ring(rt.alloc(), "perm")?);
-    let outs = sent(rt.alloc(), &seal)?;
-    same(named(rt.alloc(), &seal, first_packet(&outs))?, (9, 15, 2))?;
-    Ok(())
+    let names = first_named(rt.alloc(), &seal);
+    drop(seal);
+    same(names?, (9, 15, 2))
 }
 
 // A session that is heard first by the message 4.
@@ -107,8 +122,9 @@ fn judged(alloc: Global) -> Result<(SessionState, usize), Memory> {
 #[test]
 fn a_judged_call_waits(rt: HostRuntime) -> Result<(), Fail> {
     let (standing, count) = judged(rt.alloc())?;
-    same((count, standing.mark(4)), (1, Some(Mark::Waiting)))?;
-    Ok(())
+    let mark = standing.mark(4);
+    drop(standing);
+    same((count, mark), (1, Some(Mark::Waiting)))
 }
 
 // Answers a call by `boolTrue`, where there are numbers left, and says how many bytes that owes.
@@ -149,9 +165,11 @@ fn says_twice(alloc: Global, standing: &SessionState, call: u64) -> Result<usize
 // After so many answers: whether each owed 16 bytes, how 4 stands, and how many messages 4 and 8 owe again.
 fn kept_after(alloc: Global, count: u16) -> Result<(bool, Option<Mark>, usize, usize), Memory> {
     let (standing, is_short) = answered(alloc, count)?;
-    let first = says_twice(alloc, &standing, 4)?;
-    let second = says_twice(alloc, &standing, 8)?;
-    Ok((is_short, standing.mark(4), first, second))
+    let first = says_twice(alloc, &standing, 4);
+    let second = says_twice(alloc, &standing, 8);
+    let mark = standing.mark(4);
+    drop(standing);
+    Ok((is_short, mark, first?, second?))
 }
 
 #[test]
@@ -173,11 +191,9 @@ fn a_reply_is_kept_until_4096_others_are(rt: HostRuntime) -> Result<(), Fail> {
 #[test]
 fn a_session_that_answered_has_its_names(rt: HostRuntime) -> Result<(), Fail> {
     let (standing, _) = answered(rt.alloc(), 4097)?;
-    same(
-        (standing.key(), standing.number(), standing.is_of(KEY_ID, 9)),
-        (KEY_ID, 9, true),
-    )?;
-    Ok(())
+    let names = (standing.key(), standing.number(), standing.is_of(KEY_ID, 9));
+    drop(standing);
+    same(names, (KEY_ID, 9, true))
 }
 
 #[test]

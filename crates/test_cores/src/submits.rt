@@ -3,7 +3,7 @@
 use client_core::{CallNo, CallState, OpeningClient, SubmitFault};
 use draws::StepDraw;
 use msg_ids::Moment;
-use std::alloc::Global;
+use std::alloc::{AllocError, Global};
 use std::test::*;
 use test_asserts::same;
 
@@ -14,6 +14,17 @@ fn submits(
     after: Option<CallNo>,
 ) -> Result<Result<bool, SubmitFault>, Fail> {
     let mut client = OpeningClient::new(alloc, 1, &mut StepDraw::new())?;
+    let answered = answers(&mut client, alloc, body, after);
+    drop(client);
+    answered
+}
+
+fn answers(
+    client: &mut OpeningClient,
+    alloc: Global,
+    body: &[u8],
+    after: Option<CallNo>,
+) -> Result<Result<bool, SubmitFault>, Fail> {
     if client
         .submit(alloc, &[0xa1, 0xcf, 0x72, 0x30], None)
         .is_err()
@@ -26,10 +37,15 @@ fn submits(
     }
 }
 
+// So many zeros. No contract says how many, as a long list with a known length is computed by all that looks at it.
+fn zeros(alloc: Global, count: usize) -> Result<Vec<u8>, AllocError> {
+    vec![in alloc; 0u8; count]
+}
+
 #[test]
 fn bodies_that_are_no_calls(rt: HostRuntime) -> Result<(), Fail> {
-    let long = vec![in rt.alloc(); 0u8; 262_148]?;
-    let most = vec![in rt.alloc(); 0u8; 262_144]?;
+    let long = zeros(rt.alloc(), 262_148)?;
+    let most = zeros(rt.alloc(), 262_144)?;
     let (first, second) = (Some(CallNo { n: 1 }), Some(CallNo { n: 2 }));
     let rows: [(&[u8], Option<CallNo>, Result<bool, SubmitFault>); 7] = [
         (&long, None, Err(SubmitFault::TooLong { len: 262_148 })),
@@ -59,6 +75,7 @@ fn sessions_are_drawn(rt: HostRuntime) -> Result<(), Fail> {
         Moment::new(7200),
         &mut StepDraw::new(),
     )?;
-    same(client.session(), 6_364_136_223_846_793_005)?;
-    Ok(())
+    let session = client.session();
+    drop(client);
+    same(session, 6_364_136_223_846_793_005)
 }

@@ -87,18 +87,27 @@ fn entry(entries: &Entries, place: usize) -> Option<(u64, bool, &[u8])> {
 #[test]
 fn a_dropped_call_takes_those_with_it_that_wait_for_it(rt: HostRuntime) -> Result<(), Fail> {
     let alloc = rt.alloc();
-    let (entries, ready, before, after) = drops_a_call(alloc, &both_keys(alloc)?)?;
-    same((ready, before, after), (2, 3, 1))?;
+    let ring = both_keys(alloc)?;
+    let dropped = drops_a_call(alloc, &ring);
+    drop(ring);
+    let (entries, ready, before, after) = dropped?;
+    let done = are_dropped(&entries);
+    drop(entries);
+    done?;
+    same((ready, before, after), (2, 3, 1))
+}
+
+// The answers to the call that is dropped and to the one that waits for it.
+fn are_dropped(entries: &Entries) -> Result<(), Fail> {
     same(entries.as_slice().len(), 2)?;
     same(
-        entry(&entries, 0),
+        entry(entries, 0),
         Some((8, false, b"\x86\xe5\x78\xcd".as_slice())),
     )?;
     same(
-        entry(&entries, 1),
+        entry(entries, 1),
         Some((16, false, Short::MsgWaitFailed.content())),
-    )?;
-    Ok(())
+    )
 }
 
 // The key and the session of the first entry.
@@ -143,16 +152,41 @@ fn binds_a_key(
 fn calls_under_a_temporary_key_wait_for_its_binding(rt: HostRuntime) -> Result<(), Fail> {
     let alloc = rt.alloc();
     let ring = both_keys(alloc)?;
-    let (entries, jobs, bound) = binds_a_key(alloc, &ring, &MESSAGE)?;
-    same((entries.as_slice().len(), jobs, bound), (1, 1, true))?;
+    let done = are_bound(alloc, &ring);
+    drop(ring);
+    done
+}
+
+fn are_bound(alloc: Global, ring: &Ring) -> Result<(), Fail> {
+    is_bound(alloc, ring)?;
+    isnt_bound(alloc, ring)
+}
+
+// By the message the key is bound, and the call behind it is a job.
+fn is_bound(alloc: Global, ring: &Ring) -> Result<(), Fail> {
+    let (entries, jobs, bound) = binds_a_key(alloc, ring, &MESSAGE)?;
+    let count = entries.as_slice().len();
+    let done = is_refused(&entries);
+    drop(entries);
+    done?;
+    same((count, jobs, bound), (1, 1, true))
+}
+
+// The answer to the call before the binding.
+fn is_refused(entries: &Entries) -> Result<(), Fail> {
     same(
-        entry(&entries, 0),
+        entry(entries, 0),
         Some((8, false, Short::AuthKeyPermEmpty.content())),
     )?;
-    same(owner(&entries), Some((TEMP_ID, SESSION)))?;
-    let (entries, jobs, bound) = binds_a_key(alloc, &ring, &MESSAGE[..100])?;
-    same((entries.as_slice().len(), jobs, bound), (2, 0, false))?;
-    Ok(())
+    same(owner(entries), Some((TEMP_ID, SESSION)))
+}
+
+// By a message that is cut it isn't, and both calls are answered in place of a run.
+fn isnt_bound(alloc: Global, ring: &Ring) -> Result<(), Fail> {
+    let (entries, jobs, bound) = binds_a_key(alloc, ring, &MESSAGE[..100])?;
+    let count = entries.as_slice().len();
+    drop(entries);
+    same((count, jobs, bound), (2, 0, false))
 }
 
 // The numbers that are acknowledged of a call that comes twice, one of even sequence number, one that came before, a refused one

@@ -1,4 +1,4 @@
-//! Judging what comes in: the worked rows, and a caller's tries.
+//! Judging what comes in: the worked rows, as steps that an inbox does one after the other, and a caller's tries.
 
 ghost use Rattle.std.specs.Prelude.{◌≡◌, ◌≤◌, true, Some, IsOk};
 ghost use Rattle.salt_line.specs.Line.{Line, Stands as LineStands};
@@ -8,19 +8,17 @@ ghost use Rattle.inbox.specs.Refusals.{InEnvelope};
 ghost use Rattle.inbox.specs.Judging.{Session, session_after};
 ghost use Rattle.inbox.specs.Inbox.{Stands, Remembers, message_in};
 
-use inbox::{Inbox, Judged, Mark, Outer, Verdict};
+use crate::steps::{Step, put, step_of};
+use inbox::{Inbox, Judged, Judgement, Mark, Outer, Verdict};
 use msg_ids::Moment;
 use octets::{IdList, Memory, Octets};
 use salt_line::SaltLine;
 use std::alloc::Global;
 use std::test::*;
-use test_asserts::{holds, same};
+use test_asserts::{shown, told};
 
 /// The valid salt of the tests.
 const SALT: u64 = 7;
-
-/// A second of numbers.
-const SECOND: u64 = 1 << 32;
 
 // A body of four bytes that no service constructor begins.
 const CALL: [u8; 4] = [1, 0, 0, 0];
@@ -31,7 +29,13 @@ const ACK: [u8; 12] = [0x59, 0xb4, 0xd6, 0x62, 0x15, 0xc4, 0xb5, 0x1c, 0, 0, 0, 
 // msg_container of no message.
 const EMPTY_CONTAINER: [u8; 8] = [0xdc, 0xf8, 0xf1, 0x73, 0, 0, 0, 0];
 
-/// Accepted, and came again, as `told` tells them.
+// msg_container of a message that is one of no message.
+const NESTED_CONTAINER: [u8; 32] = [
+    0xdc, 0xf8, 0xf1, 0x73, 1, 0, 0, 0, 4, 0, 0, 0, 0, 0, 0, 0, 0, 0, 0, 0, 8, 0, 0, 0, 0xdc, 0xf8,
+    0xf1, 0x73, 0, 0, 0, 0,
+];
+
+/// Accepted, and came again, as `code_of` tells them.
 const ACCEPTED: u32 = 0;
 
 const AGAIN: u32 = 1_000;
@@ -41,7 +45,7 @@ const AGAIN_WAITING: u32 = 1_001;
 const AGAIN_CONTAINER: u32 = 1_002;
 
 // What became of a message, as a number: that of its notice, or one of the above.
-fn told(verdict: &Verdict) -> u32 {
+fn code_of(verdict: &Verdict) -> u32 {
     match verdict {
         Verdict::Accepted(_) => ACCEPTED,
         Verdict::Again(Mark::Waiting) => AGAIN_WAITING,
@@ -81,246 +85,168 @@ fn judge(
     salt: u64,
     body: &[u8],
 ) -> Result<(u32, usize), Memory> {
-    Ok(counted(&judged(inbox, alloc, seconds, number, seq, salt, body)?))
+    let (code, count, _) = counted(judged(inbox, alloc, seconds, number, seq, salt, body)?);
+    Ok((code, count))
 }
 
-// What became of a message, and how many were judged.
-fn counted(judged: &Judged) -> (u32, usize) {
+// What became of a message, how many were judged, and how many behind the first are accepted.
+fn counted(judged: Judged) -> (u32, usize, u64) {
     let judgements = judged.as_slice();
-    match judgements {
-        [first, ..] => (told(&first.verdict), judgements.len()),
-        [] => (u32::MAX, 0),
-    }
+    let code = match judgements {
+        [first, ..] => code_of(&first.verdict),
+        [] => u32::MAX,
+    };
+    let behind = judgements.get(1..).unwrap_or(&[]);
+    let counted = (code, judgements.len(), accepted_in(behind));
+    drop(judged);
+    counted
 }
 
-// A message and what becomes of it, in a new inbox or in one that accepted a call of number 8 and seq 1.
-#[derive(Clone, Copy)]
-struct Row {
-    after_call: bool,
-    seconds: u64,
-    number: u64,
-    seq: u32,
-    salt: u64,
-    body: &'static [u8],
-    wanted: u32,
+// Puts a call of this place, counted from 1, into a container: its number is 4 times that, its seq one less than 2 times.
+fn put_call(body: &mut Octets, alloc: Global, place: u64, length: u32) -> Result<(), Memory> {
+    let seq = place.wrapping_mul(2).wrapping_sub(1) & 0xffff_ffff;
+    body.push_all(alloc, &place.wrapping_mul(4).to_le_bytes())?;
+    body.push_all(alloc, &(seq as u32).to_le_bytes())?;
+    body.push_all(alloc, &length.to_le_bytes())?;
+    body.push_all(alloc, &CALL)
 }
 
-fn alone(number: u64, seq: u32, salt: u64, body: &'static [u8], wanted: u32) -> Row {
-    Row {
-        after_call: false,
-        seconds: 1_000,
-        number,
-        seq,
-        salt,
-        body,
-        wanted,
-    }
-}
-
-fn row_after_call(number: u64, seq: u32, body: &'static [u8], wanted: u32) -> Row {
-    Row {
-        after_call: true,
-        seconds: 0,
-        number,
-        seq,
-        salt: SALT,
-        body,
-        wanted,
-    }
-}
-
-#[test]
-fn messages_are_judged_by_the_first_case(rt: HostRuntime) -> Result<(), Fail> {
-    let alloc = rt.alloc();
-    let rows = [
-        alone(1_000 * SECOND, 1, SALT, &CALL, ACCEPTED),
-        alone(700 * SECOND, 1, SALT, &CALL, ACCEPTED),
-        alone(699 * SECOND, 1, SALT, &CALL, 16),
-        alone(1_030 * SECOND, 1, SALT, &CALL, ACCEPTED),
-        alone(1_031 * SECOND, 1, SALT, &CALL, 17),
-        alone(1_000 * SECOND + 2, 1, SALT, &CALL, 18),
-        alone(1_000 * SECOND, 1, 0, &CALL, 48),
-        alone(1_000 * SECOND, 2, SALT, &CALL, 35),
-        alone(1_000 * SECOND, 1, SALT, &ACK, 34),
-        alone(1_000 * SECOND, 0, SALT, &ACK, ACCEPTED),
-        row_after_call(12, 1, &CALL, 32),
-        row_after_call(4, 3, &CALL, 33),
-        row_after_call(4, 1, &CALL, 33),
-        row_after_call(12, 3, &CALL, ACCEPTED),
-        row_after_call(8, 2, &EMPTY_CONTAINER, 19),
-        row_after_call(8, 1, &CALL, AGAIN_WAITING),
-    ];
-    for row in &rows {
-        let mut inbox = Inbox::new(alloc)?;
-        if row.after_call {
-            judge(&mut inbox, alloc, 0, 8, 1, SALT, &CALL)?;
-        }
-        let (told, count) = judge(
-            &mut inbox,
-            alloc,
-            row.seconds,
-            row.number,
-            row.seq,
-            row.salt,
-            row.body,
-        )?;
-        same(told, row.wanted)?;
-        same(count, 1)?;
-        same(inbox.heard(), row.after_call || row.wanted == ACCEPTED)?;
-    }
-    Ok(())
-}
-
-// Judges these messages in one inbox, one after the other: whether each becomes what is wanted.
-fn judged_as_wanted(inbox: &mut Inbox, alloc: Global, rows: &[Row]) -> Result<bool, Memory> {
-    for row in rows {
-        let (told, count) = judge(
-            inbox,
-            alloc,
-            row.seconds,
-            row.number,
-            row.seq,
-            row.salt,
-            row.body,
-        )?;
-        if told != row.wanted || count != 1 {
-            return Ok(false);
-        }
-    }
-    Ok(true)
-}
-
-#[test]
-fn a_call_keeps_its_mark(rt: HostRuntime) -> Result<(), Fail> {
-    let alloc = rt.alloc();
-    let again = [
-        alone(1_000 * SECOND, 1, SALT, &CALL, ACCEPTED),
-        alone(1_000 * SECOND, 1, SALT, &CALL, AGAIN_WAITING),
-    ];
-    let mut inbox = Inbox::new(alloc)?;
-    holds(judged_as_wanted(&mut inbox, alloc, &again)?)?;
-    let container_between = [
-        row_after_call(8, 1, &CALL, ACCEPTED),
-        row_after_call(8, 2, &EMPTY_CONTAINER, 19),
-        row_after_call(8, 1, &CALL, AGAIN_WAITING),
-    ];
-    let mut inbox = Inbox::new(alloc)?;
-    holds(judged_as_wanted(&mut inbox, alloc, &container_between)?)?;
-    holds(matches!(inbox.mark(8), Some(Mark::Waiting)))?;
-    let copy = inbox.copy(alloc)?;
-    holds(matches!(copy.mark(8), Some(Mark::Waiting)))?;
-    holds(copy.heard())?;
-    Ok(())
-}
-
-// The body of a container of calls with these numbers and seqs from 4 and 1 on; the last one says this length.
-fn container(alloc: Global, count: u32, last_length: u32) -> Result<Octets, Memory> {
+// The body of a container of so many calls; the last one says this length.
+fn container(alloc: Global, count: u64, last_length: u64) -> Result<Octets, Memory> {
     let mut body = Octets::copy(alloc, &[0xdc, 0xf8, 0xf1, 0x73])?;
-    body.push_all(alloc, &count.to_le_bytes())?;
-    for place in 1..=count as u64 {
-        let length = if place == count as u64 {
-            last_length
-        } else {
-            4
-        };
-        body.push_all(alloc, &(4 * place).to_le_bytes())?;
-        body.push_all(
-            alloc,
-            &(((2 * place - 1) & 0xffff_ffff) as u32).to_le_bytes(),
-        )?;
-        body.push_all(alloc, &length.to_le_bytes())?;
-        body.push_all(alloc, &CALL)?;
+    body.push_all(alloc, &((count & 0xffff_ffff) as u32).to_le_bytes())?;
+    for place in 0..count {
+        let place = place.wrapping_add(1);
+        let length = if place == count { last_length } else { 4 };
+        put_call(&mut body, alloc, place, (length & 0xffff_ffff) as u32)?;
     }
     Ok(body)
 }
 
-#[test]
-fn containers_are_judged_with_their_messages(rt: HostRuntime) -> Result<(), Fail> {
-    let alloc = rt.alloc();
-    // How many messages, what the last one says of its length, how many bytes are cut, the container's number and seq;
-    // what becomes of it, and how many messages are judged.
-    let rows = [
-        (1_020, 4, 0, 8_192, 2_040, ACCEPTED, 1_021),
-        (1_021, 4, 0, 8_192, 2_042, 64, 1),
-        (2, 4, 0, 8, 4, 64, 1),
-        (2, 3, 0, 12, 4, 64, 1),
-        (2, 4, 1, 12, 4, 64, 1),
-        (2, 4, 0, 12, 4, ACCEPTED, 3),
-        (0, 4, 0, 12, 0, ACCEPTED, 1),
-    ];
-    for (messages, last_length, cut, number, seq, wanted, wanted_count) in rows {
-        let mut inbox = Inbox::new(alloc)?;
-        let body = container(alloc, messages, last_length)?;
-        let bytes = body.as_slice();
-        let kept = bytes.len().saturating_sub(cut);
-        let judged = judged(&mut inbox, alloc, 0, number, seq, SALT, &bytes[..kept])?;
-        same(counted(&judged), (wanted, wanted_count))?;
-        for place in 1..=messages as usize {
-            let accepted = match judged.as_slice().get(place) {
-                Some(inner) => inner.number == 4 * place as u64 && inner.verdict.is_accepted(),
-                None => false,
-            };
-            same(accepted, wanted == ACCEPTED)?;
+// How many of these messages are accepted calls, each with the number of its place: 4 of the first, 8 of the second.
+fn accepted_in(judgements: &[Judgement]) -> u64 {
+    let mut count = 0u64;
+    for judgement in judgements {
+        let number = count.wrapping_add(1).wrapping_mul(4);
+        if judgement.number == number && judgement.verdict.is_accepted() {
+            count = count.wrapping_add(1);
         }
-        same(inbox.mark(4).is_none(), wanted == 64 || messages == 0)?;
-        let (again, _) = judge(&mut inbox, alloc, 0, number, seq, SALT, &bytes[..kept])?;
-        let wanted_again = if wanted == ACCEPTED {
-            AGAIN_CONTAINER
-        } else {
-            AGAIN
-        };
-        same(again, wanted_again)?;
+    }
+    count
+}
+
+// Judges a container: the numbers of the step are how many calls are in it, what the last one says of its length, how many
+// bytes of it are cut, and its number. Its seq is twice the count.
+fn judged_container(inbox: &mut Inbox, alloc: Global, numbers: [u64; 4]) -> Result<Judged, Memory> {
+    let [count, last_length, cut, number] = numbers;
+    let mut body = container(alloc, count, last_length)?;
+    let kept = body.as_slice().len().saturating_sub(cut as usize);
+    body.truncate(kept);
+    let seq = (count.wrapping_mul(2) & 0xffff_ffff) as u32;
+    judged(inbox, alloc, 0, number, seq, SALT, body.as_slice())
+}
+
+// Judges a message: the numbers of the step are the moment and the message's number, seq and salt.
+fn judged_message(
+    inbox: &mut Inbox,
+    alloc: Global,
+    numbers: [u64; 4],
+    body: &[u8],
+) -> Result<(u32, usize), Memory> {
+    let [seconds, number, seq, salt] = numbers;
+    let seq = (seq & 0xffff_ffff) as u32;
+    judge(inbox, alloc, seconds, number, seq, salt, body)
+}
+
+// Judges so many calls in turn, 4 apart, under salt 0.
+fn judge_many(inbox: &mut Inbox, alloc: Global, count: u64) -> Result<(), Memory> {
+    for place in 0..count {
+        let number = place.wrapping_mul(4).wrapping_add(4);
+        judge(inbox, alloc, 0, number, 1, 0, &CALL)?;
     }
     Ok(())
 }
 
-#[test]
-fn no_container_stands_in_another(rt: HostRuntime) -> Result<(), Fail> {
-    let alloc = rt.alloc();
-    let mut body = Octets::copy(alloc, &[0xdc, 0xf8, 0xf1, 0x73, 1, 0, 0, 0])?;
-    body.push_all(alloc, &[4, 0, 0, 0, 0, 0, 0, 0, 0, 0, 0, 0, 8, 0, 0, 0])?;
-    body.push_all(alloc, &EMPTY_CONTAINER)?;
-    let mut inbox = Inbox::new(alloc)?;
-    same(
-        judge(&mut inbox, alloc, 0, 8, 2, SALT, body.as_slice())?,
-        (64, 1),
-    )?;
-    holds(inbox.mark(4).is_none())?;
-    Ok(())
-}
-
-#[test]
-fn the_floor_rises_over_a_full_window(rt: HostRuntime) -> Result<(), Fail> {
-    let alloc = rt.alloc();
-    let mut inbox = Inbox::new(alloc)?;
-    for place in 1..=16_385 {
-        judge(&mut inbox, alloc, 0, 4 * place, 1, 0, &CALL)?;
-    }
-    same(inbox.floor(), 4)?;
-    let copy = inbox.copy(alloc)?;
-    same(copy.floor(), 4)?;
-    same(judge(&mut inbox, alloc, 0, 4, 1, SALT, &CALL)?, (20, 1))?;
-    same(judge(&mut inbox, alloc, 0, 8, 1, SALT, &CALL)?, (AGAIN, 1))?;
-    holds(!inbox.heard())?;
-    Ok(())
-}
-
-#[test]
-fn states_are_told(rt: HostRuntime) -> Result<(), Fail> {
-    let alloc = rt.alloc();
-    let mut inbox = Inbox::new(alloc)?;
-    judge(&mut inbox, alloc, 0, 4, 1, 0, &CALL)?;
-    judge(&mut inbox, alloc, 0, 8, 0, SALT, &ACK)?;
-    judge(&mut inbox, alloc, 0, 12, 1, SALT, &CALL)?;
-    judge(&mut inbox, alloc, 0, 16, 2, SALT, &ACK)?;
-    judge(&mut inbox, alloc, 0, 24, 2, SALT, &ACK)?;
+// The states of seven numbers, as a list of numbers shows them.
+fn states(inbox: &Inbox, alloc: Global) -> Result<String, Fail> {
     let ids = IdList::copy(alloc, &[0, 4, 8, 12, 16, 20, 28])?;
     let states = inbox.states(alloc, &ids)?;
-    same(states.as_slice(), [1, 4, 4, 0x24, 4, 2, 3].as_slice())?;
-    holds(answer(&mut inbox, 12))?;
-    let states = inbox.states(alloc, &ids)?;
-    same(states.as_slice(), [1, 4, 4, 0x64, 4, 2, 3].as_slice())?;
+    Ok(shown(alloc, &states.as_slice())?)
+}
+
+// What an inbox says of a step that changes nothing.
+fn asked(inbox: &Inbox, alloc: Global, step: &Step<'_>) -> Result<String, Fail> {
+    let [number, ..] = step.numbers;
+    Ok(match step.verb {
+        "heard" => told(alloc, &inbox.heard())?,
+        "floor" => told(alloc, &inbox.floor())?,
+        "mark" => shown(alloc, &inbox.mark(number))?,
+        "states" => states(inbox, alloc)?,
+        _ => return Err(Fail::new("no step")),
+    })
+}
+
+// What became of a step's message and how many were judged.
+fn pair(alloc: Global, judged: (u32, usize)) -> Result<String, Fail> {
+    let (code, count) = judged;
+    Ok(format!(in alloc; "{code} {count}")?)
+}
+
+// A step.
+fn done(inbox: &mut Inbox, alloc: Global, step: &Step<'_>) -> Result<String, Fail> {
+    let numbers = step.numbers;
+    match step.verb {
+        "call" => pair(alloc, judged_message(inbox, alloc, numbers, &CALL)?),
+        "ack" => pair(alloc, judged_message(inbox, alloc, numbers, &ACK)?),
+        "empty" => pair(
+            alloc,
+            judged_message(inbox, alloc, numbers, &EMPTY_CONTAINER)?,
+        ),
+        "nested" => pair(
+            alloc,
+            judged_message(inbox, alloc, numbers, &NESTED_CONTAINER)?,
+        ),
+        "container" => {
+            let (code, count, accepted) = counted(judged_container(inbox, alloc, numbers)?);
+            Ok(format!(in alloc; "{code} {count} {accepted}")?)
+        }
+        "again" => {
+            let (code, _, _) = counted(judged_container(inbox, alloc, numbers)?);
+            Ok(told(alloc, &code)?)
+        }
+        "answer" => Ok(told(alloc, &answer(inbox, numbers[0]))?),
+        _ => asked(inbox, alloc, step),
+    }
+}
+
+// The step of a line. `new` begins anew, and `copy` goes on with a copy.
+fn plays(inbox: &mut Inbox, alloc: Global, line: &str) -> Result<(), Fail> {
+    let step = step_of(line)?;
+    match step.verb {
+        "new" => put(inbox, Inbox::new(alloc)?),
+        "copy" => {
+            let copy = inbox.copy(alloc)?;
+            put(inbox, copy);
+        }
+        "calls" => judge_many(inbox, alloc, step.numbers[0])?,
+        _ => step.gave_text(done(inbox, alloc, &step)?.as_str())?,
+    }
     Ok(())
+}
+
+fn play_all(inbox: &mut Inbox, alloc: Global, table: &str) -> Result<(), Fail> {
+    for line in table.lines() {
+        plays(inbox, alloc, line)?;
+    }
+    Ok(())
+}
+
+// The steps of a table, from a new inbox on.
+fn are_done(alloc: Global, table: &str) -> Result<(), Fail> {
+    let mut inbox = Inbox::new(alloc)?;
+    let done = play_all(&mut inbox, alloc, table);
+    drop(inbox);
+    done
 }
 
 // Marks a call as answered, where it waits.
@@ -351,7 +277,159 @@ fn judge_both(
         → (let once = session_after (InEnvelope now salts first.now.salt) session (message_in first.now) in
         Remembers inbox.new (session_after (InEnvelope now salts second.now.salt) once (message_in second.now))) }
 {
-    inbox.judge(alloc, now, line, first)?;
-    inbox.judge(alloc, now, line, second)?;
+    drop(inbox.judge(alloc, now, line, first)?);
+    drop(inbox.judge(alloc, now, line, second)?);
     Ok(())
+}
+
+// Numbers of a step are a moment, and a message's number, seq and salt; 7 is the valid one. It gives the number of a notice, 0
+// where the message is accepted, 1,000 and more where it came again, and how many messages were judged.
+const FIRST_CASE: &str = "\
+new\n\
+call 1000 1000s0 1 7 = 0 1\n\
+heard = true\n\
+new\n\
+call 1000 700s0 1 7 = 0 1\n\
+heard = true\n\
+new\n\
+call 1000 699s0 1 7 = 16 1\n\
+heard = false\n\
+new\n\
+call 1000 1030s0 1 7 = 0 1\n\
+heard = true\n\
+new\n\
+call 1000 1031s0 1 7 = 17 1\n\
+heard = false\n\
+new\n\
+call 1000 1000s2 1 7 = 18 1\n\
+heard = false\n\
+new\n\
+call 1000 1000s0 1 0 = 48 1\n\
+heard = false\n\
+new\n\
+call 1000 1000s0 2 7 = 35 1\n\
+heard = false\n\
+new\n\
+ack 1000 1000s0 1 7 = 34 1\n\
+heard = false\n\
+new\n\
+ack 1000 1000s0 0 7 = 0 1\n\
+heard = true\n\
+new\n\
+call 0 8 1 7 = 0 1\n\
+call 0 12 1 7 = 32 1\n\
+heard = true\n\
+new\n\
+call 0 8 1 7 = 0 1\n\
+call 0 4 3 7 = 33 1\n\
+heard = true\n\
+new\n\
+call 0 8 1 7 = 0 1\n\
+call 0 4 1 7 = 33 1\n\
+heard = true\n\
+new\n\
+call 0 8 1 7 = 0 1\n\
+call 0 12 3 7 = 0 1\n\
+heard = true\n\
+new\n\
+call 0 8 1 7 = 0 1\n\
+empty 0 8 2 7 = 19 1\n\
+heard = true\n\
+new\n\
+call 0 8 1 7 = 0 1\n\
+call 0 8 1 7 = 1001 1\n\
+heard = true\n";
+
+#[test]
+fn messages_are_judged_by_the_first_case(rt: HostRuntime) -> Result<(), Fail> {
+    are_done(rt.alloc(), FIRST_CASE)
+}
+
+const KEPT_MARK: &str = "\
+call 1000 1000s0 1 7 = 0 1\n\
+call 1000 1000s0 1 7 = 1001 1\n\
+new\n\
+call 0 8 1 7 = 0 1\n\
+empty 0 8 2 7 = 19 1\n\
+call 0 8 1 7 = 1001 1\n\
+mark 8 = Some(Waiting)\n\
+copy\n\
+mark 8 = Some(Waiting)\n\
+heard = true\n";
+
+#[test]
+fn a_call_keeps_its_mark(rt: HostRuntime) -> Result<(), Fail> {
+    are_done(rt.alloc(), KEPT_MARK)
+}
+
+// Numbers of a step are how many calls a container has, what the last one says of its length, how many bytes are cut, and the
+// container's number. It gives also how many calls are accepted.
+const CONTAINERS: &str = "\
+new\n\
+container 1020 4 0 8192 = 0 1021 1020\n\
+mark 4 = Some(Waiting)\n\
+again 1020 4 0 8192 = 1002\n\
+new\n\
+container 1021 4 0 8192 = 64 1 0\n\
+mark 4 = None\n\
+again 1021 4 0 8192 = 1000\n\
+new\n\
+container 2 4 0 8 = 64 1 0\n\
+mark 4 = None\n\
+again 2 4 0 8 = 1000\n\
+new\n\
+container 2 3 0 12 = 64 1 0\n\
+mark 4 = None\n\
+again 2 3 0 12 = 1000\n\
+new\n\
+container 2 4 1 12 = 64 1 0\n\
+mark 4 = None\n\
+again 2 4 1 12 = 1000\n\
+new\n\
+container 2 4 0 12 = 0 3 2\n\
+mark 4 = Some(Waiting)\n\
+again 2 4 0 12 = 1002\n\
+new\n\
+container 0 4 0 12 = 0 1 0\n\
+mark 4 = None\n\
+again 0 4 0 12 = 1002\n";
+
+#[test]
+fn containers_are_judged_with_their_messages(rt: HostRuntime) -> Result<(), Fail> {
+    are_done(rt.alloc(), CONTAINERS)
+}
+
+#[test]
+fn no_container_stands_in_another(rt: HostRuntime) -> Result<(), Fail> {
+    are_done(rt.alloc(), "nested 0 8 2 7 = 64 1\nmark 4 = None\n")
+}
+
+const FULL_WINDOW: &str = "\
+calls 16385\n\
+floor = 4\n\
+call 0 4 1 7 = 20 1\n\
+call 0 8 1 7 = 1000 1\n\
+heard = false\n\
+copy\n\
+floor = 4\n";
+
+#[test]
+fn the_floor_rises_over_a_full_window(rt: HostRuntime) -> Result<(), Fail> {
+    are_done(rt.alloc(), FULL_WINDOW)
+}
+
+// Of 0, 4, 8, 12, 16, 20 and 28.
+const STATES: &str = "\
+call 0 4 1 0 = 48 1\n\
+ack 0 8 0 7 = 0 1\n\
+call 0 12 1 7 = 0 1\n\
+ack 0 16 2 7 = 0 1\n\
+ack 0 24 2 7 = 0 1\n\
+states = [1, 4, 4, 36, 4, 2, 3]\n\
+answer 12 = true\n\
+states = [1, 4, 4, 100, 4, 2, 3]\n";
+
+#[test]
+fn states_are_told(rt: HostRuntime) -> Result<(), Fail> {
+    are_done(rt.alloc(), STATES)
 }

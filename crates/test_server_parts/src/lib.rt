@@ -17,4 +17,6 @@ mod salts;
 #[cfg(test)]
 mod short_answers;
 #[cfg(test)]
+mod steps;
+#[cfg(test)]
 mod windows;

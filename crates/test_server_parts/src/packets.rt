@@ -5,6 +5,7 @@ ghost use Rattle.msg_ids.specs.Counters.{none_given, room};
 ghost use Rattle.containers.specs.Lent.{message_of};
 ghost use Rattle.packing.specs.Packing.{packets_of};
 
+use crate::steps::zeros;
 use msg_ids::{Moment, Numbers};
 use octets::{Memory, Octets};
 use packing::{Part, front, number, packed_size, packets};
@@ -15,8 +16,6 @@ use test_asserts::{holds, same};
 
 #[test]
 fn items_are_numbered(rt: HostRuntime) -> Result<(), Fail> {
-    let alloc = rt.alloc();
-    let start = Moment::new(0);
     let mut numbers = Numbers::new();
     holds(numbers.room() > 3)?;
     let new = Item::NewSessionCreated {
@@ -24,18 +23,28 @@ fn items_are_numbered(rt: HostRuntime) -> Result<(), Fail> {
         unique_id: 7,
         server_salt: 9,
     };
+    same(numbered(&mut numbers, new), Some((7, 1)))?;
     let pong = Item::Pong {
         msg_id: 4,
         ping_id: 1,
     };
+    same(numbered(&mut numbers, pong), Some((9, 2)))?;
     let result = Item::RpcResult {
         req_msg_id: 4,
-        result: Octets::new(alloc),
+        result: Octets::new(rt.alloc()),
     };
-    same(number(start, &mut numbers, &new), (7, 1))?;
-    same(number(start, &mut numbers, &pong), (9, 2))?;
-    same(number(start, &mut numbers, &result), (13, 3))?;
-    Ok(())
+    same(numbered(&mut numbers, result), Some((13, 3)))
+}
+
+// The number and the seq that an item gets at moment 0.
+fn numbered(numbers: &mut Numbers, item: Item) -> Option<(u64, u32)> {
+    let numbered = if numbers.room() == 0 {
+        None
+    } else {
+        Some(number(Moment::new(0), numbers, &item))
+    };
+    drop(item);
+    numbered
 }
 
 // The packets of messages of a server that gave no number yet, as a caller makes them.
@@ -81,21 +90,49 @@ fn one_goes_alone_and_two_in_a_container(rt: HostRuntime) -> Result<(), Fail> {
     Ok(())
 }
 
+// So many parts that are the same.
+fn repeated<'a>(alloc: Global, part: Part<'a>, count: usize) -> Result<Vec<Part<'a>>, Fail> {
+    let mut parts = Vec::new(alloc);
+    for _ in 0..count {
+        parts.push(part)?;
+    }
+    Ok(parts)
+}
+
+// How many of the parts from a place on go into the first packet.
+fn front_from(parts: &[Part<'_>], place: usize) -> Option<usize> {
+    match parts.get(place..) {
+        Some(parts) if !parts.is_empty() => Some(front(parts)),
+        _ => None,
+    }
+}
+
 #[test]
 fn fifteen_great_results_go_by_threes(rt: HostRuntime) -> Result<(), Fail> {
-    let alloc = rt.alloc();
-    let body = vec![in alloc; 0u8; 262_156]?;
+    let body = zeros(rt.alloc(), 262_156)?;
+    if u32::try_from(body.len()).is_err() {
+        return Err(Fail::new("too long"));
+    }
     let result = Part {
         number: 5,
         seq: 1,
         body: body.as_slice(),
     };
-    let great = [result; 15];
-    assert_eq!(rt; front(&great), 3);
-    assert_eq!(rt; front(&great[3..]), 3);
-    assert_eq!(rt; front(&great[12..]), 3);
-    assert_eq!(rt; packed_size(&great[..3]), 786_524);
+    let great = repeated(rt.alloc(), result, 15)?;
+    same(front_from(great.as_slice(), 0), Some(3))?;
+    same(front_from(great.as_slice(), 3), Some(3))?;
+    same(front_from(great.as_slice(), 12), Some(3))?;
+    same(first_size(great.as_slice()), Some(786_524))?;
     Ok(())
+}
+
+// The size of the packet of the parts that go first.
+#[tactic(auto, using(crate::proofs::PacketLemmas::first_are_packet))]
+fn first_size(parts: &[Part<'_>]) -> Option<usize> {
+    if parts.is_empty() {
+        return None;
+    }
+    Some(packed_size(&parts[..front(parts)]))
 }
 
 #[test]
@@ -105,8 +142,8 @@ fn small_messages_go_by_1020(rt: HostRuntime) -> Result<(), Fail> {
         seq: 1,
         body: b"",
     };
-    let many = [small; 1_021];
-    assert_eq!(rt; front(&many), 1_020);
-    assert_eq!(rt; front(&many[1_020..]), 1);
+    let many = repeated(rt.alloc(), small, 1_021)?;
+    same(front_from(many.as_slice(), 0), Some(1_020))?;
+    same(front_from(many.as_slice(), 1_020), Some(1))?;
     Ok(())
 }

@@ -1,4 +1,5 @@
-//! The worked rows of the registers, and what a server does with a service.
+//! The worked rows of the registers, as bytes of requests and replies in hexadecimal digits, and what a server does with a
+//! service.
 
 ghost use Rattle.std.specs.Prelude.{◌≡◌, List, [], ◌∷◌, ◌++◌, IfOk, OnErr};
 ghost use Rattle.regs_service.specs.Served.{Served, Ran, state_after, requests_of};
@@ -7,7 +8,7 @@ use octets::{Memory, Octets};
 use regs_service::{NoMemory, Regs, Service, is_register_name, laws};
 use std::alloc::Global;
 use std::test::*;
-use test_asserts::{holds, same};
+use test_asserts::{holds, same, same_at};
 
 // One more run of a server that keeps what it served.
 fn one_more<V: Service>(alloc: Global, service: &mut V, request: &[u8]) -> Result<Octets, NoMemory>
@@ -49,77 +50,91 @@ const VALUE_0: &[u8] = b"\x03\x2c\x1b\x0a\0\0\0\0\0\0\0\0";
 
 const VALUE_5: &[u8] = b"\x03\x2c\x1b\x0a\x05\0\0\0\0\0\0\0";
 
-const BAD_REQUEST: &[u8] = b"\x19\xca\x44\x21\x90\x01\0\0\x0bBAD_REQUEST";
-
-const TOO_LARGE: &[u8] = b"\x19\xca\x44\x21\x90\x01\0\0\x09TOO_LARGE\0\0";
-
 const TOO_MANY: &[u8] = b"\x19\xca\x44\x21\x90\x01\0\0\x08TOO_MANY\0\0\0";
+
+// Requests to the registers, one after the other, and their replies: nothing, `get x`, `add x 5`, `get x`, no request, `add x` of
+// 2^64 - 1, `get x`; then a name in the long form with padding that isn't zeros; then a byte too many, a byte too few, no name,
+// names of 32 and of 33 bytes, and a capital.
+const RUNS: &str = " 19ca4421900100000b4241445f52455155455354\n\
+022c1b0a01780000 032c1b0a0000000000000000\n\
+012c1b0a017800000500000000000000 032c1b0a0500000000000000\n\
+022c1b0a01780000 032c1b0a0500000000000000\n\
+00000000 19ca4421900100000b4241445f52455155455354\n\
+012c1b0a01780000ffffffffffffffff 19ca44219001000009544f4f5f4c415247450000\n\
+022c1b0a01780000 032c1b0a0500000000000000\n\
+022c1b0afe01000078070809 032c1b0a0500000000000000\n\
+022c1b0a0178000000 19ca4421900100000b4241445f52455155455354\n\
+022c1b0a017800 19ca4421900100000b4241445f52455155455354\n\
+022c1b0a00000000 19ca4421900100000b4241445f52455155455354\n\
+022c1b0a206162636465666768696a6b6c6d6e6f707172737475767778797a303132333435000000 032c1b0a0000000000000000\n\
+022c1b0a216162636465666768696a6b6c6d6e6f707172737475767778797a303132333435360000 19ca4421900100000b4241445f52455155455354\n\
+022c1b0a01580000 19ca4421900100000b4241445f52455155455354\n";
+
+// A reply is foreseen, and comes.
+fn is_run(alloc: Global, regs: &mut Regs, row: &str) -> Result<(), Fail> {
+    let (request, want) = row.split_once(' ').ok_or("a request and a reply")?;
+    let request = hex::decode(alloc, request).ok().ok_or("digits")?;
+    let foreseen = regs.foresee(alloc, request.as_slice())?;
+    same_at(row, hex::encode(alloc, foreseen.as_slice())?.as_str(), want)?;
+    let reply = regs.run(alloc, request.as_slice())?;
+    same_at(row, hex::encode(alloc, reply.as_slice())?.as_str(), want)
+}
 
 #[test]
 fn sums_and_refusals(rt: HostRuntime) -> Result<(), Fail> {
     let alloc = rt.alloc();
-    let rows: [(&[u8], &[u8]); 14] = [
-        (GET_X, VALUE_0),
-        (ADD_X_5, VALUE_5),
-        (GET_X, VALUE_5),
-        (b"\0\0\0\0", BAD_REQUEST),
-        (ADD_X_ALL, TOO_LARGE),
-        (GET_X, VALUE_5),
-        // The long form, and padding that isn't zeros.
-        (b"\x02\x2c\x1b\x0a\xfe\x01\0\0x\x07\x08\x09", VALUE_5),
-        // A byte too many, a byte too few, no name, 32 and 33 bytes, a capital, nothing.
-        (b"\x02\x2c\x1b\x0a\x01x\0\0\0", BAD_REQUEST),
-        (b"\x02\x2c\x1b\x0a\x01x\0", BAD_REQUEST),
-        (b"\x02\x2c\x1b\x0a\0\0\0\0", BAD_REQUEST),
-        (
-            b"\x02\x2c\x1b\x0a\x20abcdefghijklmnopqrstuvwxyz012345\0\0\0",
-            VALUE_0,
-        ),
-        (
-            b"\x02\x2c\x1b\x0a\x21abcdefghijklmnopqrstuvwxyz0123456\0\0",
-            BAD_REQUEST,
-        ),
-        (b"\x02\x2c\x1b\x0a\x01X\0\0", BAD_REQUEST),
-        (b"", BAD_REQUEST),
-    ];
     let mut regs = Regs::fresh(alloc);
-    for (request, want) in rows {
-        let foreseen = regs.foresee(alloc, request)?;
-        same(foreseen.as_slice(), want)?;
-        let reply = regs.run(alloc, request)?;
-        same(reply.as_slice(), want)?;
+    same(RUNS.lines().count(), 14)?;
+    for row in RUNS.lines() {
+        is_run(alloc, &mut regs, row)?;
     }
-    let mut copy = regs.copy(alloc)?;
-    let reply = one_more(alloc, &mut copy, GET_X)?;
-    same(reply.as_slice(), VALUE_5)?;
+    same(one_more_on_copy(alloc, &regs)?.as_slice(), VALUE_5)?;
     holds(is_register_name(b"x"))?;
     holds(fails_and_goes_on::<Regs>(alloc, ADD_X_5, GET_X).is_err())?;
     Ok(())
 }
 
-// 65,536 names of four letters each, then another, and an add to the first one.
+// The reply of a copy to `get x`.
+fn one_more_on_copy(alloc: Global, regs: &Regs) -> Result<Octets, Fail> {
+    let mut copy = regs.copy(alloc)?;
+    Ok(one_more(alloc, &mut copy, GET_X)?)
+}
+
+// The request that adds 5 to the register of four letters that this number stands for.
+fn request_of(number: u32) -> [u8; 20] {
+    let mut request = *b"\x01\x2c\x1b\x0a\x04aaaa\0\0\0\x05\0\0\0\0\0\0\0";
+    let [low, high, ..] = number.to_le_bytes();
+    request[5] = b'a' + low % 16;
+    request[6] = b'a' + low / 16;
+    request[7] = b'a' + high % 16;
+    request[8] = b'a' + high / 16;
+    request
+}
+
+// The registers of 65,536 names of four letters each, whose sums are 5.
+fn of_all_names(alloc: Global) -> Result<Regs, Fail> {
+    let mut regs = Regs::fresh(alloc);
+    for k in 0..65_536_u32 {
+        let reply = regs.run(alloc, &request_of(k))?;
+        same(reply.as_slice(), VALUE_5)?;
+    }
+    Ok(regs)
+}
+
+// A reply of the registers.
+fn is_reply(alloc: Global, regs: &mut Regs, request: &[u8], want: &[u8]) -> Result<(), Fail> {
+    same(regs.run(alloc, request)?.as_slice(), want)
+}
+
+// Behind them comes another name, and then an add to the first one.
 #[test]
 fn names_have_an_end(rt: HostRuntime) -> Result<(), Fail> {
     let alloc = rt.alloc();
-    let mut regs = Regs::fresh(alloc);
-    let mut request = *b"\x01\x2c\x1b\x0a\x04aaaa\0\0\0\x05\0\0\0\0\0\0\0";
-    for k in 0..65_536_u32 {
-        let bytes = k.to_le_bytes();
-        request[5] = b'a' + bytes[0] % 16;
-        request[6] = b'a' + bytes[0] / 16;
-        request[7] = b'a' + bytes[1] % 16;
-        request[8] = b'a' + bytes[1] / 16;
-        let reply = regs.run(alloc, &request)?;
-        same(reply.as_slice(), VALUE_5)?;
-    }
-    let reply = regs.run(alloc, ADD_X_5)?;
-    same(reply.as_slice(), TOO_MANY)?;
+    let mut regs = of_all_names(alloc)?;
+    is_reply(alloc, &mut regs, ADD_X_5, TOO_MANY)?;
     same(regs.names(), 65_536)?;
-    let reply = regs.run(alloc, ADD_X_ALL)?;
-    same(reply.as_slice(), TOO_MANY)?;
-    let reply = regs.run(alloc, GET_X)?;
-    same(reply.as_slice(), VALUE_0)?;
-    let reply = regs.run(alloc, b"\x01\x2c\x1b\x0a\x04aaaa\0\0\0\0\0\0\0\0\0\0\0")?;
-    same(reply.as_slice(), VALUE_5)?;
-    Ok(())
+    is_reply(alloc, &mut regs, ADD_X_ALL, TOO_MANY)?;
+    is_reply(alloc, &mut regs, GET_X, VALUE_0)?;
+    let none = b"\x01\x2c\x1b\x0a\x04aaaa\0\0\0\0\0\0\0\0\0\0\0";
+    is_reply(alloc, &mut regs, none, VALUE_5)
 }

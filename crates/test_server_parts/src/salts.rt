@@ -1,13 +1,14 @@
-//! Salts of a session: worked rows, and callers' tries.
+//! Salts of a session: worked rows, as steps that a line does one after the other, and callers' tries.
 
-ghost use Rattle.std.specs.Prelude.{◌≡◌, ◌<◌, IfOk, IsTrue};
+ghost use Rattle.std.specs.Prelude.{◌≡◌, ◌≤◌, ◌<◌, IfOk, IsTrue};
 
+use crate::steps::{Step, step_of};
 use draws::{Draw, StepDraw};
 use msg_ids::Moment;
 use octets::Memory;
 use salt_line::laws::current_salts_are_valid;
 use salt_line::{SaltLine, SaltRow};
-use std::alloc::Global;
+use std::alloc::{AllocError, Global};
 use std::test::Fail;
 use test_asserts::{holds, same};
 
@@ -17,70 +18,115 @@ const NO_ROW: SaltRow = SaltRow {
     salt: 0,
 };
 
-// The words of a `StepDraw`: 6364136223846793005 times 1 to 4, modulo 2^64.
-const WORDS: [u64; 4] = [
-    6_364_136_223_846_793_005,
-    12_728_272_447_693_586_010,
-    645_664_597_830_827_399,
-    7_009_800_821_677_620_404,
-];
+// How many rows a line tells at a moment where as many as the second number says are asked for, and those of them from the place of
+// the third number up to that of the fourth.
+fn future(
+    line: &mut SaltLine,
+    draw: &mut StepDraw,
+    alloc: Global,
+    now: Moment,
+    step: &Step<'_>,
+) -> Result<(), Fail>
+    requires { line.old.latest ≤ now }
+    ensures { line.new.latest ≡ now }
+{
+    let [_, count, from, to] = step.numbers;
+    let mut rows = [NO_ROW; 64];
+    let count = line.future(now, count as usize, draw, &mut rows);
+    let rows = rows.get(from as usize..to as usize).ok_or("no such rows")?;
+    step.gave_text(told(alloc, count, rows)?.as_str())
+}
+
+// How many rows there are, and these of them: from when and until when each is valid, and its salt.
+fn told(alloc: Global, count: usize, rows: &[SaltRow]) -> Result<String, AllocError> {
+    let mut text = format!(in alloc; "{count}")?;
+    for row in rows {
+        let (since, until, salt) = (row.since, row.until, row.salt);
+        text.push_str(format!(in alloc; ", {since} {until} {salt}")?.as_str())?;
+    }
+    Ok(text)
+}
+
+// A step of a line that was given no moment behind this one; the latest that it was given then.
+fn done(
+    line: &mut SaltLine,
+    draw: &mut StepDraw,
+    alloc: Global,
+    latest: u64,
+    step: &Step<'_>,
+) -> Result<u64, Fail>
+    requires { line.old.latest ≤ latest }
+    ensures { IfOk result (λ latest. line.new.latest ≤ latest) }
+{
+    let [seconds, salt, ..] = step.numbers;
+    let now = Moment::new(seconds);
+    if now.seconds() < latest {
+        return Err(Fail::new("too early"));
+    }
+    if step.verb == "judge" {
+        step.gave(alloc, u64::from(line.judge(now, salt)))?;
+        return Ok(latest);
+    }
+    if step.verb == "current" {
+        step.gave(alloc, line.current(now, draw))?;
+        return Ok(now.seconds());
+    }
+    if step.verb == "future" {
+        future(line, draw, alloc, now, step)?;
+        return Ok(now.seconds());
+    }
+    Err(Fail::new("no step"))
+}
+
+// The steps of a table, of a line of salt 7 that begins at this moment.
+fn are_done(alloc: Global, start: u64, table: &str) -> Result<(), Fail> {
+    let mut draw = StepDraw::new();
+    let start = Moment::new(start);
+    let mut line = SaltLine::new(alloc, start, 7)?;
+    let mut latest = start.seconds();
+    for row in table.lines() {
+        latest = done(&mut line, &mut draw, alloc, latest, &step_of(row)?)?;
+    }
+    Ok(())
+}
+
+const FIRST: &str = "\
+judge 1000 7 = 1\n\
+judge 4599 7 = 1\n\
+judge 4600 7 = 0\n\
+judge 1000 0 = 0\n\
+judge 1000 8 = 0\n";
 
 #[test]
 fn first_salt_is_valid_for_an_hour(rt: HostRuntime) -> Result<(), Fail> {
-    let line = SaltLine::new(rt.alloc(), Moment::new(1_000), 7)?;
-    holds(line.judge(Moment::new(1_000), 7))?;
-    holds(line.judge(Moment::new(4_599), 7))?;
-    holds(!line.judge(Moment::new(4_600), 7))?;
-    holds(!line.judge(Moment::new(1_000), 0))?;
-    holds(!line.judge(Moment::new(1_000), 8))?;
-    Ok(())
+    are_done(rt.alloc(), 1_000, FIRST)
 }
 
-// A line of start 0 and word 7: its periods begin at 0, 1,800, 3,600 and 5,400.
+// Its periods begin at 0, 1,800, 3,600 and 5,400. The words of a `StepDraw` are 6364136223846793005 times 1 to 4, modulo 2^64.
+const IN_ORDER_OF_NEED: &str = "\
+current 1799 = 7\n\
+current 1800 = 6364136223846793005\n\
+current 3599 = 6364136223846793005\n\
+current 3600 = 12728272447693586010\n\
+judge 5399 6364136223846793005 = 1\n\
+judge 5400 6364136223846793005 = 0\n\
+future 3600 2 0 3 = 2, 3600 7200 12728272447693586010, 5400 9000 645664597830827399, 0 0 0\n";
+
 #[test]
 fn words_in_order_of_need(rt: HostRuntime) -> Result<(), Fail> {
-    let mut draw = StepDraw::new();
-    let mut line = SaltLine::new(rt.alloc(), Moment::new(0), 7)?;
-    same(line.current(Moment::new(1_799), &mut draw), 7)?;
-    same(line.current(Moment::new(1_800), &mut draw), WORDS[0])?;
-    same(line.current(Moment::new(3_599), &mut draw), WORDS[0])?;
-    same(line.current(Moment::new(3_600), &mut draw), WORDS[1])?;
-    holds(line.judge(Moment::new(5_399), WORDS[0]))?;
-    holds(!line.judge(Moment::new(5_400), WORDS[0]))?;
-    let mut rows = [NO_ROW; 64];
-    same(line.future(Moment::new(3_600), 2, &mut draw, &mut rows), 2)?;
-    let first = SaltRow {
-        since: 3_600,
-        until: 7_200,
-        salt: WORDS[1],
-    };
-    let second = SaltRow {
-        since: 5_400,
-        until: 9_000,
-        salt: WORDS[2],
-    };
-    same(rows[0], first)?;
-    same(rows[1], second)?;
-    same(rows[2], NO_ROW)?;
-    Ok(())
+    are_done(rt.alloc(), 0, IN_ORDER_OF_NEED)
 }
+
+// At 100,000 the periods that begin at 99,000 and 100,800 come first.
+const DRAWN_AHEAD: &str = "\
+future 1799 3 0 3 = 3, 0 3600 7, 1800 5400 6364136223846793005, 3600 7200 12728272447693586010\n\
+current 3600 = 12728272447693586010\n\
+current 100000 = 645664597830827399\n\
+future 100000 100 1 2 = 64, 100800 104400 7009800821677620404\n";
 
 #[test]
 fn rows_drawn_ahead(rt: HostRuntime) -> Result<(), Fail> {
-    let mut draw = StepDraw::new();
-    let mut line = SaltLine::new(rt.alloc(), Moment::new(0), 7)?;
-    let mut rows = [NO_ROW; 64];
-    same(line.future(Moment::new(1_799), 3, &mut draw, &mut rows), 3)?;
-    same(rows[0].salt, 7)?;
-    same(rows[2].salt, WORDS[1])?;
-    same(line.current(Moment::new(3_600), &mut draw), WORDS[1])?;
-    same(line.current(Moment::new(100_000), &mut draw), WORDS[2])?;
-    same(
-        line.future(Moment::new(100_000), 100, &mut draw, &mut rows),
-        64,
-    )?;
-    same(rows[1].salt, WORDS[3])?;
-    Ok(())
+    are_done(rt.alloc(), 0, DRAWN_AHEAD)
 }
 
 // What a server session does with its salts: it gives the current one to a client, and judges a packet that comes with

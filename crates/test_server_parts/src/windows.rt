@@ -1,15 +1,17 @@
-//! Windows of numbers: a caller's try, the worked rows, and each call once.
+//! Windows of numbers: a caller's try, the worked rows, and each call once. The rows are steps, which a window does one after
+//! the other.
 
 ghost use Rattle.std.specs.Prelude.{◌≡◌, true, Ok, Some, IfOk};
 ghost use Rattle.id_window.specs.Marks.{Marks, given};
 ghost use Rattle.id_window.specs.History.{History, AcceptedCall, noted, found};
 ghost use Rattle.id_window.specs.Window.{Stands};
 
+use crate::steps::{Step, step_of};
 use id_window::{Cross, Mark, WINDOW_NUMBERS, Window};
 use octets::Memory;
 use std::alloc::Global;
 use std::test::Fail;
-use test_asserts::same;
+use test_asserts::{same, shown, told};
 
 // Notes a call where it is new and crosses nothing, and says whether it did.
 fn accept_call(window: &mut Window, alloc: Global, number: u64, seq: u32) -> Result<bool, Memory>
@@ -73,67 +75,126 @@ fn note_new(
     Ok(window.note(number, seq, mark))
 }
 
-#[test]
-fn a_full_window_forgets_its_least_number(rt: HostRuntime) -> Result<(), Fail> {
-    let mut window = Window::new(rt.alloc())?;
-    for k in 1..16_385u64 {
-        let forgotten = note_new(&mut window, rt.alloc(), 4 * k, 2 * k as u32, Mark::Service)?;
-        same(forgotten, None)?;
+// A mark by a number: a service message's, that of a call that waits, and those of notices.
+fn mark_of(number: u64) -> Mark {
+    match number {
+        0 => Mark::Service,
+        1 => Mark::Waiting,
+        _ => Mark::Noticed((number & 0xff) as u32),
     }
-    same(window.floor(), 0)?;
-    same(window.greatest(), 65_536)?;
-    let forgotten = note_new(&mut window, rt.alloc(), 65_540, 65_535, Mark::Waiting)?;
-    same(forgotten, Some((4, Mark::Service)))?;
-    same(window.floor(), 4)?;
-    // Below the full window a number comes straight back.
-    let forgotten = note_new(&mut window, rt.alloc(), 6, 0, Mark::Noticed(18))?;
-    same(forgotten, Some((6, Mark::Noticed(18))))?;
-    same(window.floor(), 6)?;
-    same(window.find(6), None)?;
-    same(window.find(8), Some(Mark::Service))?;
-    let copy = window.copy(rt.alloc())?;
-    same(copy.find(65_540), Some(Mark::Waiting))?;
-    same((copy.floor(), copy.greatest()), (6, 65_540))?;
+}
+
+// What a window says of a step that changes nothing.
+fn asked(window: &Window, alloc: Global, step: &Step<'_>) -> Result<String, Fail> {
+    let [number, seq, ..] = step.numbers;
+    let seq = (seq & 0xffff_ffff) as u32;
+    Ok(match step.verb {
+        "find" => shown(alloc, &window.find(number))?,
+        "copied" => shown(alloc, &find_in_copy(window, alloc, number)?)?,
+        "crosses" => shown(alloc, &window.crosses(number, seq))?,
+        "edges" => edges(window, alloc)?,
+        _ => return Err(Fail::new("no step")),
+    })
+}
+
+// Its floor and its greatest number, and those of a copy.
+fn edges(window: &Window, alloc: Global) -> Result<String, Fail> {
+    let copy = window.copy(alloc)?;
+    let (floor, greatest) = (window.floor(), window.greatest());
+    let (copied_floor, copied_greatest) = (copy.floor(), copy.greatest());
+    Ok(format!(in alloc; "{floor} {greatest}, {copied_floor} {copied_greatest}")?)
+}
+
+// So many numbers of service messages, 4 apart: how many of them made the window forget one.
+fn noted(window: &mut Window, alloc: Global, count: u64) -> Result<u64, Fail> {
+    let mut forgotten = 0u64;
+    for k in 0..count {
+        let number = k.wrapping_mul(4).wrapping_add(4);
+        let seq = (k.wrapping_mul(2).wrapping_add(2) & 0xffff_ffff) as u32;
+        if note_new(window, alloc, number, seq, Mark::Service)?.is_some() {
+            forgotten = forgotten.wrapping_add(1);
+        }
+    }
+    Ok(forgotten)
+}
+
+// A step.
+fn done(window: &mut Window, alloc: Global, step: &Step<'_>) -> Result<String, Fail> {
+    let [number, seq, mark, _] = step.numbers;
+    let seq = (seq & 0xffff_ffff) as u32;
+    Ok(match step.verb {
+        "note" => {
+            let forgotten = note_new(window, alloc, number, seq, mark_of(mark))?;
+            shown(alloc, &forgotten)?
+        }
+        "notes" => told(alloc, &noted(window, alloc, number)?)?,
+        "accept" => told(alloc, &accept_call(window, alloc, number, seq)?)?,
+        "answer" => shown(alloc, &accept_and_answer(window, alloc, number, seq))?,
+        _ => asked(window, alloc, step)?,
+    })
+}
+
+fn play_all(window: &mut Window, alloc: Global, table: &str) -> Result<(), Fail> {
+    for line in table.lines() {
+        let step = step_of(line)?;
+        step.gave_text(done(window, alloc, &step)?.as_str())?;
+    }
     Ok(())
 }
+
+// The steps of a table, from a fresh window on.
+fn are_done(alloc: Global, table: &str) -> Result<(), Fail> {
+    let mut window = Window::new(alloc)?;
+    let done = play_all(&mut window, alloc, table);
+    drop(window);
+    done
+}
+
+// A number below a full window comes straight back.
+const FULL: &str = "\
+notes 16384 = 0\n\
+edges = 0 65536, 0 65536\n\
+note 65540 65535 1 = Some((4, Service))\n\
+edges = 4 65540, 4 65540\n\
+note 6 0 18 = Some((6, Noticed(18)))\n\
+find 6 = None\n\
+find 8 = Some(Service)\n\
+copied 65540 = Some(Waiting)\n\
+edges = 6 65540, 6 65540\n";
+
+#[test]
+fn a_full_window_forgets_its_least_number(rt: HostRuntime) -> Result<(), Fail> {
+    are_done(rt.alloc(), FULL)
+}
+
+// A noticed number crosses nothing, and even seqs may be shared.
+const CROSSING: &str = "\
+note 8 1 1 = None\n\
+crosses 12 1 = Low\n\
+crosses 4 3 = High\n\
+crosses 4 1 = High\n\
+crosses 12 3 = None\n\
+crosses 8 3 = None\n\
+crosses 4 0 = None\n\
+note 16 9 34 = None\n\
+crosses 20 9 = None\n\
+note 20 4 0 = None\n\
+crosses 24 4 = None\n\
+crosses 24 3 = Low\n";
 
 #[test]
 fn crossing_rows(rt: HostRuntime) -> Result<(), Fail> {
-    let mut window = Window::new(rt.alloc())?;
-    note_new(&mut window, rt.alloc(), 8, 1, Mark::Waiting)?;
-    let rows = [
-        (12, 1, Cross::Low),
-        (4, 3, Cross::High),
-        (4, 1, Cross::High),
-        (12, 3, Cross::None),
-        (8, 3, Cross::None),
-        (4, 0, Cross::None),
-    ];
-    for (number, seq, cross) in rows {
-        same(window.crosses(number, seq), cross)?;
-    }
-    // A noticed number crosses nothing, and even seqs may be shared.
-    note_new(&mut window, rt.alloc(), 16, 9, Mark::Noticed(34))?;
-    same(window.crosses(20, 9), Cross::None)?;
-    note_new(&mut window, rt.alloc(), 20, 4, Mark::Service)?;
-    same(window.crosses(24, 4), Cross::None)?;
-    same(window.crosses(24, 3), Cross::Low)?;
-    Ok(())
+    are_done(rt.alloc(), CROSSING)
 }
+
+const CHANGED: &str = "\
+answer 8 1 = Some(Replied(true))\n\
+find 8 = Some(Replied(true))\n\
+copied 8 = Some(Replied(true))\n\
+accept 8 3 = false\n";
 
 #[test]
 fn marks_change(rt: HostRuntime) -> Result<(), Fail> {
-    let mut window = Window::new(rt.alloc())?;
-    same(
-        accept_and_answer(&mut window, rt.alloc(), 8, 1),
-        Some(Mark::Replied(true)),
-    )?;
-    same(window.find(8), Some(Mark::Replied(true)))?;
-    same(
-        find_in_copy(&window, rt.alloc(), 8)?,
-        Some(Mark::Replied(true)),
-    )?;
-    same(accept_call(&mut window, rt.alloc(), 8, 3)?, false)?;
     same(WINDOW_NUMBERS, 16_384)?;
-    Ok(())
+    are_done(rt.alloc(), CHANGED)
 }
