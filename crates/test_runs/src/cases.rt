@@ -62,8 +62,8 @@ impl Case {
 
     // The run says what it says over what came so far.
     fn sends(&mut self, alloc: Global) -> Result<(), Fail> {
-        let sent = sent_by(self.ran(alloc)?);
-        set(&mut self.up, sent);
+        let ended = self.ran(alloc)?;
+        self.up = ended.sent;
         Ok(())
     }
 
@@ -80,19 +80,17 @@ impl Case {
         } else {
             Octets::copy(alloc, self.left.as_slice())?
         };
-        let answered = answer(
+        let (sent, left) = answer(
             alloc,
             &self.given,
             words.as_slice(),
             self.up.over(is_first),
             seed,
             journal,
-        );
-        drop(words);
-        let (sent, left) = answered?;
+        )?;
         self.down.set(is_first, sent);
         if is_first {
-            set(&mut self.left, left);
+            self.left = left;
         }
         Ok(())
     }
@@ -100,9 +98,15 @@ impl Case {
     // How a run ends, what it writes, so many bytes of it at most, and the calls of its net and its spawner where they are asked for.
     fn tells(&mut self, alloc: Global, most: usize, verb: &str) -> Result<(), Fail> {
         let ended = self.ran(alloc)?;
-        let told = put_ended(&mut self.text, alloc, &ended, most, verb);
-        drop(ended);
-        told
+        let text = &mut self.text;
+        put_counted(text, alloc, u64::from(ended.status), "")?;
+        put_front(text, ended.out.as_slice(), most)?;
+        match verb {
+            "pairs" => put_starts(text, alloc, &ended.kids),
+            "serves" => put_served(text, alloc, &ended),
+            "keeps" => put_kept(text, alloc, &ended),
+            _ => Ok(()),
+        }
     }
 
     // A line that says what a run is given: whether it is one.
@@ -111,12 +115,12 @@ impl Case {
         let given = &mut self.given;
         match line.verb {
             "word" => given.words.push(String::from_str(alloc, line.rest())?)?,
-            "words" => set(&mut given.words, words_of(alloc, line.rest())?),
+            "words" => given.words = words_of(alloc, line.rest())?,
             "fill" => put(alloc, &mut given.input, line.bytes()?.as_slice())?,
             "each" => put_each(&mut given.input, line)?,
-            "keys" => set(&mut given.keys, keys_of(alloc, line.rest())?),
-            "file" => set(&mut given.keys, line.bytes()?),
-            "journal" => set(&mut given.journal, Some(line.bytes()?)),
+            "keys" => given.keys = keys_of(alloc, line.rest())?,
+            "file" => given.keys = line.bytes()?,
+            "journal" => given.journal = Some(line.bytes()?),
             "read" => given.reads = piece_of(line)?,
             "write" => given.writes = piece_of(line)?,
             "fail" => given.faults.set(line)?,
@@ -139,15 +143,12 @@ impl Case {
                 Ok(cut(line.alloc, &mut self.down.first, most)?)
             }
             "again" => {
-                let ended = self.ran(line.alloc)?;
-                let held = held(line.alloc, &ended.disks);
-                drop(ended);
-                set(&mut self.given.journal, Some(held?));
+                let Ended { disks, .. } = self.ran(line.alloc)?;
+                self.given.journal = Some(held(line.alloc, &disks)?);
                 Ok(())
             }
             "turn" => {
-                let sent = std::mem::replace(&mut self.up, Stream::new(line.alloc));
-                set(&mut self.down, sent);
+                self.down = std::mem::replace(&mut self.up, Stream::new(line.alloc));
                 Ok(())
             }
             "front" => {
@@ -159,11 +160,6 @@ impl Case {
             _ => Err(Fail::new("no such line")),
         }
     }
-}
-
-// A value takes the place of another, which is let go of here: a generic function proves that once for each type.
-fn set<T: Drop>(place: &mut T, value: T) {
-    drop(std::mem::replace(place, value));
 }
 
 // What a server of these words writes that hears this over its one connection, and what its journal holds then. The net of a
@@ -190,46 +186,9 @@ fn answer(
         faults: Faults::none(),
         piece_bytes: given.piece_bytes,
     };
-    let ended = ran(alloc, &given, words, &come, seed);
-    drop(given);
-    drop(come);
-    let ended = ended?;
-    let left = held(alloc, &ended.disks);
-    let Stream { second, .. } = sent_by(ended);
-    Ok((second, left?))
-}
-
-// What a run wrote over its links; all else of it is let go of here.
-fn sent_by(ended: Ended) -> Stream {
-    let Ended {
-        out,
-        sent,
-        kids,
-        disks,
-        ..
-    } = ended;
-    drop(out);
-    drop(kids);
-    drop(disks);
-    sent
-}
-
-// Puts how a run ended, what it wrote, and what else is asked for.
-fn put_ended(
-    text: &mut String,
-    alloc: Global,
-    ended: &Ended,
-    most: usize,
-    verb: &str,
-) -> Result<(), Fail> {
-    put_counted(text, alloc, u64::from(ended.status), "")?;
-    put_front(text, ended.out.as_slice(), most)?;
-    match verb {
-        "pairs" => put_starts(text, alloc, &ended.kids),
-        "serves" => put_served(text, alloc, ended),
-        "keeps" => put_kept(text, alloc, ended),
-        _ => Ok(()),
-    }
+    let Ended { sent, disks, .. } = ran(alloc, &given, words, &come, seed)?;
+    let Stream { second, .. } = sent;
+    Ok((second, held(alloc, &disks)?))
 }
 
 // Puts a number and a word behind it, and ends the line.
@@ -358,12 +317,6 @@ fn piece_of(line: &mut Line<'_>) -> Result<(usize, u64), Fail> {
 pub(crate) fn played(alloc: Global, case: &str) -> Result<String, Fail> {
     let (title, lines) = case.split_once('\n').ok_or("no line")?;
     let mut case = Case::new(alloc)?;
-    let told = told(alloc, &mut case, title, lines);
-    drop(case);
-    told
-}
-
-fn told(alloc: Global, case: &mut Case, title: &str, lines: &str) -> Result<String, Fail> {
     for line in lines.lines() {
         case.plays(&mut Line::of(alloc, line))?;
     }

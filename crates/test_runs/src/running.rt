@@ -103,63 +103,16 @@ pub(crate) fn ran(
     seed: u8,
 ) -> Result<Ended, Fail> {
     let (mut input, mut out) = streams(alloc, given)?;
-    let done = match outside_of(alloc, given, come) {
-        Ok(outside) => finished(alloc, words, &mut input, &mut out, outside, seed),
-        Err(fail) => Err(fail),
-    };
-    drop(input);
-    drop(out);
-    done
-}
-
-// Such a run over its input, its output and the rest of its outside, each part of which is let go of at one place.
-fn finished(
-    alloc: Global,
-    words: &[String],
-    input: &mut MemSource,
-    out: &mut MemSink,
-    mut outside: Outside,
-    seed: u8,
-) -> Result<Ended, Fail> {
-    let told = told_of(alloc, words, input, out, &mut outside, seed);
-    let net_calls = outside.net.calls().len();
-    let Outside {
-        files,
-        net,
-        kids,
-        disks,
-    } = outside;
-    drop(files);
-    drop(net);
-    match told {
-        Ok((status, out, sent)) => Ok(Ended {
-            status,
-            out,
-            sent,
-            net_calls,
-            kids,
-            disks,
-        }),
-        Err(fail) => {
-            drop(kids);
-            drop(disks);
-            Err(fail)
-        }
-    }
-}
-
-// The status of such a run, what it wrote, and what it wrote over each link.
-fn told_of(
-    alloc: Global,
-    words: &[String],
-    input: &mut MemSource,
-    out: &mut MemSink,
-    outside: &mut Outside,
-    seed: u8,
-) -> Result<(u8, Octets, Stream), Fail> {
-    let status = status_of(alloc, words, input, out, outside, seed)?;
-    let written = Octets::copy(alloc, out.written())?;
-    Ok((status, written, sent_over(alloc, &outside.net)?))
+    let mut outside = outside_of(alloc, given, come)?;
+    let status = status_of(alloc, words, &mut input, &mut out, &mut outside, seed)?;
+    Ok(Ended {
+        status,
+        out: Octets::copy(alloc, out.written())?,
+        sent: sent_over(alloc, &outside.net)?,
+        net_calls: outside.net.calls().len(),
+        kids: outside.kids,
+        disks: outside.disks,
+    })
 }
 
 /// The starts of a spawner, a line for each: its words.
