@@ -168,7 +168,7 @@ memory_ends : {S V : Type 0} (step : S → ℕ × S) (serve : Step V) (lock : Lo
     → later.line ≡ side.line → later.told ≡ side.told
     → ((server : Server) → side.desk server → later.desk server) → later.service ≡ side.service
     → Did step serve lock ring side due (Some ends.Memory) later
-memory_ends step serve lock ring side later due line told unchanged full behind same same_full = record {
+memory_ends step serve lock ring side later due line told unchanged same = record {
   acts = [];
   bytes = [];
   follows = λ outside talk is stands. record {
