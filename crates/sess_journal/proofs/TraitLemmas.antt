@@ -102,13 +102,13 @@ module _ {K S D : Type 0} (bases : Bases S D) (told : K → Option DiskTold) (de
 -- ---- what a fault leaves
 
 -- where there was no room nothing was done
-pub nothing_done : {A P : Type 0} (len : ℕ) (r : Result A DeskFault) → IfErr r (IfNothingDone P) → IfErr r (λ fault. fault ≡ faults.Full len → P)
-nothing_done {A} {P} len r h = err_map r (λ fault done is. subst (λ (f : DeskFault). IfNothingDone P f) is done) h
+pub nothing_done : {A : Type 0} (P : Type 0) (len : ℕ) (r : Result A DeskFault) → IfErr r (IfNothingDone P) → IfErr r (λ fault. fault ≡ faults.Full len → P)
+nothing_done P len r h = err_map r (λ fault done is. subst (λ (f : DeskFault). IfNothingDone P f) is done) h
 
 pub full_stands : {K S D A : Type 0} (bases : Bases S D) (told : K → Option DiskTold) (before after : Seen K S D) (server : Server) (len : ℕ) (r : Result A DeskFault)
     → IfErr r (IfNothingDone (after ≡ before)) → StandsFor bases told before server → IfErr r (λ fault. fault ≡ faults.Full len → StandsFor bases told after server)
 full_stands {K} {S} {D} bases told before after server len r done stands =
-    err_map r (λ fault same is. subst (λ (d : Seen K S D). StandsFor bases told d server) (sym (same is)) stands) (nothing_done len r done)
+    err_map r (λ fault same is. subst (λ (d : Seen K S D). StandsFor bases told d server) (sym (same is)) stands) (nothing_done (after ≡ before) len r done)
 
 -- the file of an open journal, or another one
 file_or : {K : Type 0} → File K → Option (File K) → File K
@@ -140,6 +140,7 @@ module _ {K S D : Type 0} (bases : Bases S D) (told : K → Option DiskTold) (pl
   -- its disk failed as these records were to be added
   broke : (more : List Record) → Adds bases told entries more before after → OfDisks before.book after.book (IsSameDisk told place) → after.server.seal ≡ before.server.seal → length more ≤ 2
       → IsBroken bases told after server
+  unfolding file_or
   broke more adds disks seal few =
       let file_is : keeps.recorded.file ≡ adds.file = ap (λ (o : Option (File K)). file_or keeps.recorded.file o) (sym keeps.recorded.opened ∙ adds.opened) in
       let from : disk_in before.book ≡ Some adds.file.disk = ap (λ (o : Option (File K)). disk_by o before.book.lost) adds.opened in

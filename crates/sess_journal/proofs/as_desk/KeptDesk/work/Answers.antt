@@ -36,7 +36,7 @@ returns-clause-behind g c = λ server stands.
     c.work.ensures.refuses (c.work.ensures.journal stands.0 server stands.1) c.work.ensures.unchanged c.work.ensures.same_disk c.work.ensures.same_seal (omega arith) (omega arith)
 
 pub returns-clause-same_service_on_full : goal.returns-clause-same_service_on_full
-returns-clause-same_service_on_full g c = λ len. nothing_done len c.work.result c.work.ensures.same_service
+returns-clause-same_service_on_full g c = λ len. nothing_done _ len c.work.result c.work.ensures.same_service
 
 pub returns-clause-counted : goal.returns-clause-counted
 returns-clause-counted g c = counts_so g.K.Disk.faults c.work.result c.args.self.now.book c.work.new.self.book c.has_disk.ensures c.work.ensures.counted
