@@ -8,5 +8,4 @@ pub mod ServingLemmas
 pub mod Openings
 pub mod Keepings
 pub mod Kepts
-pub mod Noting
 pub mod Judging

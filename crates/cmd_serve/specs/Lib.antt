@@ -4,4 +4,3 @@ pub mod Journals
 pub mod Lines
 pub mod Runs
 pub mod Inner
-pub mod Noted
