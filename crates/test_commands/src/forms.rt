@@ -131,10 +131,9 @@ fn is_relayed(alloc: Global, tag: Tag, form: Form, step: usize) -> Result<bool, 
     let streams = streams_of(alloc, tag, form)?;
     let mut init = start(tag);
     let streams = ciphered(&mut init, streams);
-    let wire = init.wire;
-    drop(init);
     let mut relay = Relay::new(form, &SECRET);
-    let is_sent = is_sent(alloc, &mut relay, form, &wire, &streams, step);
+    let is_sent = is_sent(alloc, &mut relay, form, &init.wire, &streams, step);
+    drop(init);
     drop(relay);
     drop(streams);
     is_sent
