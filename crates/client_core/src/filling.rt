@@ -145,7 +145,7 @@ impl Draft {
         requires words { length body.now % 4 ≡ 0 }
         requires short { length body.now ≤ body_bytes_max }
         requires numbers { messages_max < self.old.count + room numbers.old }
-        requires room { HasRoomFor (message_head + (wrap_bytes wrap + length body.now)) self.old }
+        requires room { self.old.count < messages_max → HasRoomFor (message_head + (wrap_bytes wrap + length body.now)) self.old }
         ensures told { is_some result ≡ enters (wrap_bytes wrap + length body.now) self.old }
         ensures given { IfSome result (λ given. given ≡ (next_number numbers.old.last at, seq_of numbers.old.content_messages true)) }
         ensures counted { OnSome result (numbers.new ≡ after_next numbers.old at true) }
