@@ -256,12 +256,12 @@ needs_holds (Some temporary) needed is = needs_by temporary.binding (record { pe
 -- there is room for it
 pub room_of : (core : Contents) (place : ℕ) (call : CallNo) (draft : Draft) → draft.is_full ≡ false → HasRoomFrom core place draft → IsQueuedAt place call core.calls.rows
     → draft.count < messages_max → HasRoomFor (bytes_at core.calls.rows (Some (call.n - 1))) draft
-room_of core place call draft open has told less =
+room_of core place call draft still has told less =
     let rows = core.calls.rows in
     let held = holds_back core.rest.temporary in
     let got = split_at held place (call.n - 1) rows told in
     let more : draft.count + suc (messages_max - draft.count - 1) ≡ messages_max = omega (arith, less) in
-    room_less _ _ _ (omega (arith, got.1.now (messages_max - draft.count - 1), ap row_bytes got.1.here)) (has.enough open (messages_max - draft.count - 1) more)
+    room_less _ _ _ (omega (arith, got.1.now (messages_max - draft.count - 1), ap row_bytes got.1.here)) (has.enough still (messages_max - draft.count - 1) more)
 
 -- what is left, where the rest of the client holds back as before
 abbrev IsAfter : Contents → Contents → List Row → Type 0
@@ -277,10 +277,10 @@ pub room_goes : (core new : Contents) (place : ℕ) (call : CallNo) (change : Ro
     → TakesUp (bytes_at core.calls.rows (Some (call.n - 1))) old draft
     → IsQueuedAt place call core.calls.rows → HasRoomFrom core place old → HasRoomFrom new place draft
 room_goes core new place call change old draft goes is count full takes told has = record {
-  enough = λ open more few. (
+  enough = λ still more few. (
     let held = holds_back core.rest.temporary in
     let got = split_at held place (call.n - 1) core.calls.rows told in
-    let room = has.enough (sym full ∙ open) (suc more) (omega (arith, few, count)) in
+    let room = has.enough (sym full ∙ still) (suc more) (omega (arith, few, count)) in
     let same = same_from core new (changed call change core.calls.rows) place (suc more) is in
     let rest = front_less held held (suc more) (behind_row held got.0 (suc more)) got.1.rest (λ own. own) (behind_least (held || is_some got.0.after) (suc more)) in
     room_left (bytes_at core.calls.rows (Some (call.n - 1))) _ _ old draft
@@ -291,20 +291,20 @@ pub room_never : (core new : Contents) (place : ℕ) (call : CallNo) (change : R
     → IsAfter core new (changed call change core.calls.rows) → (holds_back core.rest.temporary || follows_at core.calls.rows (Some (call.n - 1))) ≡ true
     → IsQueuedAt place call core.calls.rows → HasRoomFrom core place draft → HasRoomFrom new place draft
 room_never core new place call change draft goes is waits told has = record {
-  enough = λ open more few. (
+  enough = λ still more few. (
     let held = holds_back core.rest.temporary in
     let got = split_at held place (call.n - 1) core.calls.rows told in
     let same = same_from core new (changed call change core.calls.rows) place (suc more) is in
     let behind : behind_row held got.0 more ≡ suc more = follows_told true got.0 held (follows_at core.calls.rows (Some (call.n - 1))) (ap row_follows got.1.here) (sym waits) more in
     let rest = ap (λ n. front_bytes held n got.1.rest) behind in
-    room_less _ _ draft (omega (arith, same, rest, got.1.now more, got.1.gone change goes more)) (has.enough open more few));
+    room_less _ _ draft (omega (arith, same, rest, got.1.now more, got.1.gone change goes more)) (has.enough still more few));
 }
 
 pub room_waits : (core new : Contents) (place : ℕ) (call : CallNo) (draft : Draft)
     → IsAfter core new core.calls.rows → (holds_back core.rest.temporary || follows_at core.calls.rows (Some (call.n - 1))) ≡ true
     → IsQueuedAt place call core.calls.rows → HasRoomFrom core place draft → HasRoomFrom new (place + 1) draft
 room_waits core new place call draft is waits told has = record {
-  enough = λ open more few. (
+  enough = λ still more few. (
     let held = holds_back core.rest.temporary in
     let got = split_at held place (call.n - 1) core.calls.rows told in
     let same = same_from core new core.calls.rows (place + 1) (suc more) is in
@@ -312,11 +312,11 @@ room_waits core new place call draft is waits told has = record {
     let moved = ap (λ n. bytes_from held n (suc more) core.calls.rows) next in
     let behind : behind_row held got.0 more ≡ suc more = follows_told true got.0 held (follows_at core.calls.rows (Some (call.n - 1))) (ap row_follows got.1.here) (sym waits) more in
     let rest = ap (λ n. front_bytes held n got.1.rest) behind in
-    room_less _ _ draft (omega (arith, same, moved, rest, got.1.now more, got.1.next (suc more))) (has.enough open more few));
+    room_less _ _ draft (omega (arith, same, moved, rest, got.1.now more, got.1.next (suc more))) (has.enough still more few));
 }
 
 pub room_behind : (core : Contents) (place : ℕ) (draft : Draft) → draft.is_full ≡ true → HasRoomFrom core place draft
-room_behind core place draft full = record { enough = λ open more few. absurd (true≢false (sym full ∙ open)) }
+room_behind core place draft full = record { enough = λ still more few. absurd (true≢false (sym full ∙ still)) }
 
 pub waits_not : Waits ≡ Going None → ⊥
 waits_not is = grind (arith, is)
@@ -334,6 +334,6 @@ waits_so false false neither = absurd (neither refl refl)
 pub room_begins : (core : Contents) (held : Bool) (draft : Draft) → (holds_back core.rest.temporary ≡ true → held ≡ true)
     → HasRoomFor (front_bytes held messages_max core.calls.rows) draft → HasRoomFrom core 0 draft
 room_begins core held draft so has = record {
-  enough = λ open more few.
+  enough = λ still more few.
       room_less _ _ draft (front_less (holds_back core.rest.temporary) held (suc more) messages_max core.calls.rows so (omega (arith, few))) has;
 }

@@ -203,7 +203,7 @@ impl Draft {
         self.is_full
     }
 
-    /// The packet's body, in room that was taken before.
+    /// The packet's body, in room that was taken before. What room the numbers leave over is given up.
     pub(crate) fn finish(self, mut body: Buffer) -> Filled
         requires empty { body.bytes ≡ [] }
         requires room { container_head + length self.rows ≤ body.room }
@@ -220,11 +220,12 @@ impl Draft {
         let Draft {
             rows,
             count,
-            inner,
+            mut inner,
             is_full: _,
             number,
             seq,
         } = self;
+        inner.shrink_to_fit();
         put_packet(&mut body, count, rows.as_slice());
         Filled {
             count,

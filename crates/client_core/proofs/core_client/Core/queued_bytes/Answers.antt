@@ -23,18 +23,18 @@ loop-k-preserved c =
     record {
       counted = subst (λ (n : ℕ). IsCounted held rows (c.loop-k.k + 1) n (c.loop-k.bytes + c.queued_at-bytes.result)) (sym c.left_behind-left.ensures) next;
       few = omega (arith, c.if-bytes-ge-CONTAINER_BYTES_MAX.false);
-      some = omega (arith, c.if-left-eq-0.false);
+      some = omega (arith, c.if-left-eq0.false);
     }
 
-pub returns-then-left-eq-0 : goal.returns-then-left-eq-0
-returns-then-left-eq-0 c =
+pub returns-then-left-eq0 : goal.returns-then-left-eq0
+returns-then-left-eq0 c =
     let rows = c.args.self.now.calls.rows in
     let held = holds_back c.args.self.now.rest.temporary in
     let all = ap (λ (core : Contents). length (places_from (is_row_in group.Queued) 0 core.calls.rows)) c.self.view_is in
     let next = counted_next held rows c.loop-k.k c.loop-k.left c.loop-k.bytes c.queued_at-bytes.result _ c.may_wait.result c.loop-k.invariant.some
     (omega (arith, c.members-k-end.ensures.kept, all, c.loop-k-test.true)) c.queued_at-bytes.ensures.bytes refl c.may_wait.ensures c.loop-k.invariant.counted in
     record {
-      bytes = λ small. counted_out held rows _ _ _ (omega (arith, c.left_behind-left.ensures, c.if-left-eq-0.true)) next;
+      bytes = λ small. counted_out held rows _ _ _ (omega (arith, c.left_behind-left.ensures, c.if-left-eq0.true)) next;
       few = omega (arith, c.if-bytes-ge-CONTAINER_BYTES_MAX.false);
     }
 

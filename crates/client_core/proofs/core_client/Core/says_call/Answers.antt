@@ -65,14 +65,14 @@ returns-in-Waits-clause-bytes_behind g c out place told has =
     let held = ap (λ (core : Contents). holds_back core.rest.temporary) c.self.view_is in
     let rows = ap (λ (core : Contents). core.calls.rows) c.self.view_is in
     room_waits c.args.self.now _ place c.args.call _ (held, rows)
-    (waits_so _ _ (λ open first. waits_not (c.in-Waits.ensures.first open first))) told has
+    (waits_so _ _ (λ still first. waits_not (c.in-Waits.ensures.first still first))) told has
 
 pub returns-in-Never-clause-bytes_left : goal.returns-in-Never-clause-bytes_left
 returns-in-Never-clause-bytes_left g c went place told has =
     let held = ap (λ (core : Contents). holds_back core.rest.temporary) c.self.view_is in
     let rows = ap (λ (calls : Calls). calls.rows) c.settle.ensures.kept ∙ ap (λ (core : Contents). changed c.args.call (settled_row (fate.Refused 0)) core.calls.rows) c.self.view_is in
     room_never c.args.self.now _ place c.args.call (settled_row (fate.Refused 0)) _ (λ row. refl) (held, rows)
-    (waits_so _ _ (λ open first. never_not (c.in-Never.ensures.first open first))) told has
+    (waits_so _ _ (λ still first. never_not (c.in-Never.ensures.first still first))) told has
 
 pub sends_call-requires-clause-wrap : goal.sends_call-requires-clause-wrap
 sends_call-requires-clause-wrap g c = c.in-Goes.ensures.wrap c.in-Goes.wrap refl

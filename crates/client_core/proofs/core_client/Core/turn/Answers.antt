@@ -8,20 +8,20 @@ use Rattle.client_core.proofs.OwedLemmas.{first_after, under_first, under_wrap, 
 use Rattle.client_core.proofs.core_client.Core.turn.Goals as goal
 
 pub returns-then-not-is_open-clause-first : goal.returns-then-not-is_open-clause-first
-returns-then-not-is_open-clause-first c open first =
+returns-then-not-is_open-clause-first c still first =
     let kept = ap (λ (core : Contents). option_map (λ row. row.after) (at c.args.call core.calls.rows)) (sym c.self.view_is) ∙ c.after.ensures.kept in
     c.turn_after-turn.ensures.first (first_after (at c.args.call c.args.self.now.calls.rows) c.after.result kept first)
 
 pub returns-in-None-clause-first : goal.returns-in-None-clause-first
-returns-in-None-clause-first c open first =
+returns-in-None-clause-first c still first =
     let kept = ap (λ (core : Contents). option_map (λ row. row.after) (at c.args.call core.calls.rows)) (sym c.self.view_is) ∙ c.after.ensures.kept in
     c.turn_after-turn.ensures.first (first_after (at c.args.call c.args.self.now.calls.rows) c.after.result kept first)
 
 pub returns-in-Some-clause-first : goal.returns-in-Some-clause-first
-returns-in-Some-clause-first c open first =
+returns-in-Some-clause-first c still first =
     let kept = ap (λ (core : Contents). option_map (λ row. row.after) (at c.args.call core.calls.rows)) (sym c.self.view_is) ∙ c.after.ensures.kept in
     let turn = c.turn_after-turn.ensures.first (first_after (at c.args.call c.args.self.now.calls.rows) c.after.result kept first) in
-    let bound = ap (λ (core : Contents). holds_back core.rest.temporary) c.self.view_is ∙ open in
+    let bound = ap (λ (core : Contents). holds_back core.rest.temporary) c.self.view_is ∙ still in
     c.turn_under.ensures ∙ (under_first _ _ bound ∙ turn)
 
 pub returns-then-not-is_open-clause-wrap : goal.returns-then-not-is_open-clause-wrap
