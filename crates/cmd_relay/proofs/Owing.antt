@@ -28,7 +28,3 @@ refused-passes form secret pieces i piece relay text fault (Ok a) within is so_f
     one_refused form secret pieces (take i pieces) (drop (i + 1) pieces) piece relay text fault a.status a.text (pieces_at pieces i piece within is)
     so_far (refused known) one told
 refused-passes form secret pieces i piece relay text fault (Err e) within is so_far refused one told known = tt
-
--- ---- what is owed
-
-module _ (form : Form) (secret text : List ℕ) (pieces : List Piece) (short : length text ≤ input_bytes_max) (spelled : Spells text pieces) where

@@ -10,7 +10,7 @@ use Rattle.envelope.specs.declared.refusal.Refusal.{Refusal}
 use Rattle.envelope.specs.declared.refusal.Refusal.TheVariants as refusals
 use Rattle.envelope.specs.Lock.{mt_lock}
 use Rattle.envelope.specs.Opening.{key_named, length_said, message_key_said, padding_left}
-use Rattle.envelope.specs.Packet.{Lock}
+use Rattle.envelope.specs.Packet.{Lock, block_bytes, packet_head, packet_max, packet_min, plain_head}
 use Rattle.server_output.specs.Outs.{sealed_envelope}
 use Rattle.ring_rules.specs.Binding.{keys_of}
 use Rattle.ring_rules.specs.Opening.{is_good_at, opened, plain_in}
@@ -22,11 +22,11 @@ use Rattle.server_node.specs.Trace.{Outside}
 
 -- 72 to 1,048,576 bytes, whose text is whole blocks
 abbrev pub is_packet_size : ℕ → Bool
-is_packet_size size = nat_le 72 size && (nat_le size 1048576 && ((size - 24) % 16 == 0))
+is_packet_size size = nat_le packet_min size && (nat_le size packet_max && ((size - packet_head) % block_bytes == 0))
 
 -- whole words of 4 bytes, and no more than there are behind the head
 abbrev pub is_body_length : List ℕ → Bool
-is_body_length plain = (length_said plain % 4 == 0) && nat_le (length_said plain) (length plain - 32)
+is_body_length plain = (length_said plain % 4 == 0) && nat_le (length_said plain) (length plain - plain_head)
 
 -- by its plain text: the body's length, or the padding's
 abbrev pub refusal_in : List ℕ → Refusal

@@ -43,8 +43,6 @@ body-bad : is_good bad_body ≡ false
 unfolding spelling
 body-bad = refl
 
-unfolding spelling
-
 unbound-bad : is_good auth_key_perm_empty ≡ false
 unfolding spelling
 unbound-bad = refl

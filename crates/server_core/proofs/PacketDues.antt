@@ -1,17 +1,20 @@
 -- What the messages of a packet need, as they were judged.
-use Rattle.std.proofs.Common.{◌≡◌, ℕ, ◌≤◌, ◌&&◌, true, List, [], ◌∷◌, Option, Some, None, length, map, refl, arith}
+use Rattle.std.proofs.Common.{◌≡◌, ℕ, ◌&&◌, true, List, [], ◌∷◌, Option, Some, None, ap, map, subst, sym, refl}
 use Rattle.std.specs.Prelude.{◌==◌}
 use Rattle.std.proofs.lemmas.Bool.{and_from, cond_both, eq-eqb}
 use Rattle.service_tl.specs.declared.lists.Message.{Message}
 use Rattle.id_window.specs.declared.mark.Mark.{Mark}
+use Rattle.inbox.specs.declared.judged.Judgement.{Judgement}
 use Rattle.inbox.specs.declared.judged.Verdict.{Verdict}
 use Rattle.inbox.specs.declared.judged.Verdict.TheVariants.{Accepted, Again, Noticed}
 use Rattle.inbox.specs.Kinds.{inner_messages, item_told, kind_of}
-use Rattle.inbox.specs.Judging.{Session, inner_judgements, is_container, is_uncontained, judge, judged_session, judgements, unfolded, verdict_by}
+use Rattle.inbox.specs.Judging.{Session, inner_judgements, is_container, is_uncontained, judge, judged_session, judgements, unfolded, verdict_again, verdict_by}
 use Rattle.inbox.specs.Refusals.{Way, InContainer, refusal}
 use Rattle.id_window.specs.History.{found}
+use Rattle.server_dispatch.specs.declared.action.Action.TheVariants.{Nothing}
 use Rattle.server_dispatch.specs.declared.dues.Due.{Due}
 use Rattle.server_dispatch.specs.Action.{due_by, due_needed, due_of, needed_of}
+use Rattle.server_core.specs.Room.{dues_in}
 use Rattle.server_core.specs.SettlingAll.{AreDue, are_numbered}
 
 due-by : (mark : Option Mark) (code : Option ℕ) (message : Message)
@@ -38,31 +41,10 @@ unfolded-due (Accepted item) session message = inner-due session (inner_messages
 unfolded-due (Again mark) session message = tt
 unfolded-due (Noticed code) session message = tt
 
--- what they need where they are accepted is what they need by their judgements
-pub are-due : (way : Way) (session : Session) (message : Message)
+-- where the first one's number isn't kept
+new-due : (way : Way) (session : Session) (message : Message)
     → AreDue (judgements way session message) (map (λ one. one.body) (message ∷ unfolded (judge way session message) message)) (map due_needed (message ∷ inner_messages message))
-are-due way session message = (due-judged way session message, unfolded-due (judge way session message) (judged_session way session message) message)
-
--- and no judgement is without
-
-inner-long : (session : Session) (messages : List Message) → length (inner_judgements session messages) ≡ length messages
-inner-long session [] = refl
-inner-long session (message ∷ messages) = let rest = inner-long (judged_session InContainer session message) messages in omega arith
-
-needed-long : (messages : List Message) → length (map due_needed messages) ≡ length messages
-needed-long [] = refl
-needed-long (message ∷ messages) = let rest = needed-long messages in omega arith
-
-unfolded-long : (verdict : Verdict) (session : Session) (message : Message)
-    → length (inner_judgements session (unfolded verdict message)) ≤ length (map due_needed (inner_messages message))
-unfolded-long (Accepted item) session message = let one = inner-long session (inner_messages message) in let other = needed-long (inner_messages message) in omega arith
-unfolded-long (Again mark) session message = omega arith
-unfolded-long (Noticed code) session message = omega arith
-
-pub enough-dues : (way : Way) (session : Session) (message : Message)
-    → length (judgements way session message) ≤ length (map due_needed (message ∷ inner_messages message))
-enough-dues way session message =
-    let rest = unfolded-long (judge way session message) (judged_session way session message) message in omega arith
+new-due way session message = (due-judged way session message, unfolded-due (judge way session message) (judged_session way session message) message)
 
 -- each has the number of its message
 
@@ -81,8 +63,66 @@ unfolded-numbered (Accepted item) session message = inner-numbered session (inne
 unfolded-numbered (Again mark) session message = none-numbered (map due_needed (inner_messages message))
 unfolded-numbered (Noticed code) session message = none-numbered (map due_needed (inner_messages message))
 
-pub same-numbers : (way : Way) (session : Session) (message : Message)
+new-numbers : (way : Way) (session : Session) (message : Message)
     → are_numbered (judgements way session message) (map due_needed (message ∷ inner_messages message)) ≡ true
-same-numbers way session message =
+new-numbers way session message =
     and_from (message.number == message.number) _ (eq-eqb message.number message.number refl)
     (unfolded-numbered (judge way session message) (judged_session way session message) message)
+
+-- ---- where its number is kept it is judged alone
+
+abbrev judged-with : Session → Message → Verdict → List Judgement
+judged-with after message verdict = record { number = message.number; seq = message.seq; verdict = verdict } ∷ inner_judgements after (unfolded verdict message)
+
+abbrev bodies-with : Message → Verdict → List (List ℕ)
+bodies-with message verdict = map (λ one. one.body) (message ∷ unfolded verdict message)
+
+abbrev alone : Message → List Due
+alone message = record { number = message.number; action = Nothing } ∷ []
+
+again-due : (after : Session) (message : Message) (mark : Mark)
+    → AreDue (judged-with after message (verdict_again (kind_of message) mark)) (bodies-with message (verdict_again (kind_of message) mark)) (alone message)
+again-due after message mark =
+    let P : Verdict → Type 0 = λ verdict. AreDue (judged-with after message verdict) (bodies-with message verdict) (alone message) in
+    cond_both (is_container (kind_of message) && is_uncontained mark) (Noticed 19) (Again mark) P (λ is. (refl, tt)) (λ is. (refl, tt))
+
+again-numbers : (after : Session) (message : Message) (mark : Mark)
+    → are_numbered (judged-with after message (verdict_again (kind_of message) mark)) (alone message) ≡ true
+again-numbers after message mark =
+    let P : Verdict → Type 0 = λ verdict. are_numbered (judged-with after message verdict) (alone message) ≡ true in
+    let is = and_from (message.number == message.number) true (eq-eqb message.number message.number refl) refl in
+    cond_both (is_container (kind_of message) && is_uncontained mark) (Noticed 19) (Again mark) P (λ so. is) (λ so. is)
+
+kept-verdict : (way : Way) (session : Session) (message : Message) (mark : Mark) → found message.number session.history session.marks ≡ Some mark
+    → judge way session message ≡ verdict_again (kind_of message) mark
+kept-verdict way session message mark is =
+    ap (λ (mark : Option Mark). verdict_by mark (refusal way session.history message) (kind_of message) (item_told message.body)) is
+
+-- ---- what the messages need where they are accepted is what they need by their judgements
+
+due-by_mark : (way : Way) (session : Session) (message : Message) (mark : Option Mark) → found message.number session.history session.marks ≡ mark
+    → AreDue (judgements way session message) (bodies-with message (judge way session message)) (dues_in mark message)
+due-by_mark way session message None is = new-due way session message
+due-by_mark way session message (Some mark) is =
+    let after = judged_session way session message in
+    let P : Verdict → Type 0 = λ verdict. AreDue (judged-with after message verdict) (bodies-with message verdict) (alone message) in
+    subst P (sym (kept-verdict way session message mark is)) (again-due after message mark)
+
+pub are-due : (way : Way) (session : Session) (message : Message)
+    → AreDue (judgements way session message) (map (λ one. one.body) (message ∷ unfolded (judge way session message) message))
+    (dues_in (found message.number session.history session.marks) message)
+are-due way session message = due-by_mark way session message (found message.number session.history session.marks) refl
+
+-- and each has the number of its message
+
+numbers-by_mark : (way : Way) (session : Session) (message : Message) (mark : Option Mark) → found message.number session.history session.marks ≡ mark
+    → are_numbered (judgements way session message) (dues_in mark message) ≡ true
+numbers-by_mark way session message None is = new-numbers way session message
+numbers-by_mark way session message (Some mark) is =
+    let after = judged_session way session message in
+    let P : Verdict → Type 0 = λ verdict. are_numbered (judged-with after message verdict) (alone message) ≡ true in
+    subst P (sym (kept-verdict way session message mark is)) (again-numbers after message mark)
+
+pub same-numbers : (way : Way) (session : Session) (message : Message)
+    → are_numbered (judgements way session message) (dues_in (found message.number session.history session.marks) message) ≡ true
+same-numbers way session message = numbers-by_mark way session message (found message.number session.history session.marks) refl

@@ -1,6 +1,7 @@
 -- Scaffolding, and no promise: the room that was taken for a tick.
 use Rattle.std.specs.Prelude.{◌≡◌, ◌≤◌, ◌<◌, ℕ, ◌*◌, false, List, [], length, slice_index_or, All, IfSome, IsSome}
 use Rattle.waits.specs.Jobs.{Queue}
+use Rattle.waits.specs.Limits.{most_jobs}
 use Rattle.server_output.specs.Batch.{packets_most}
 use Rattle.server_session.specs.declared.session.SessionState.{SessionState}
 use Rattle.server_session.specs.Names.{name_kept}
@@ -21,7 +22,7 @@ pub record IsFresh (most : ℕ) (voice : TickTurn) : Type 0 where
 pub record AreFresh (now : ℕ) (jobs : Queue) (standings : List SessionState) (voices : List TickTurn) : Type 0 where
   pub long : length voices ≡ length standings
   pub each : (i : ℕ) (e : TickTurn) → i < length voices → IsFresh (slice_index_or voices i e).left (slice_index_or voices i e)
-  pub few : (i : ℕ) (e : TickTurn) → i < length voices → (slice_index_or voices i e).left ≤ 4096
+  pub few : (i : ℕ) (e : TickTurn) → i < length voices → (slice_index_or voices i e).left ≤ most_jobs
   pub enough : All (λ one. one.failed ≡ false) jobs → (i : ℕ) (d : SessionState) (e : TickTurn) → i < length voices
       → answers_left now jobs (name_kept (slice_index_or standings i d)) ≤ (slice_index_or voices i e).left
 

@@ -1,5 +1,10 @@
 -- The room that a packet's event takes before anything is judged.
-use Rattle.std.specs.Prelude.{◌≡◌, ◌≤◌, ℕ, ◌+◌, ◌*◌, List, [], length, sum_by, vec_capacity}
+use Rattle.std.specs.Prelude.{◌≡◌, ◌≤◌, ℕ, ◌+◌, ◌*◌, Option, Some, None, List, [], ◌∷◌, length, map, sum_by, vec_capacity}
+use Rattle.service_tl.specs.declared.lists.Message.{Message}
+use Rattle.id_window.specs.declared.mark.Mark.{Mark}
+use Rattle.inbox.specs.Kinds.{inner_messages}
+use Rattle.server_dispatch.specs.declared.action.Action.TheVariants.{Nothing}
+use Rattle.server_dispatch.specs.Action.{due_needed}
 use Rattle.server_dispatch.specs.Contents.{short_bytes_max}
 use Rattle.server_output.specs.Batch.{packets_most}
 use Rattle.server_output.specs.Items.{acks_bytes, new_session_bytes, result_bytes}
@@ -12,6 +17,12 @@ use Rattle.server_session.specs.Unsaid.{IsCalled}
 use Rattle.server_core.specs.declared.room.PacketRoom.{PacketRoom}
 use Rattle.server_core.specs.SettlingAll.{calls_by, due_most}
 use Rattle.server_core.specs.Speech.{IsRoomFor}
+
+-- What each message of a packet needs where it is accepted: the one in the envelope, and then those inside it. Where the number
+-- of the first is kept, with this mark, none is accepted, and it is judged alone.
+abbrev pub dues_in : Option Mark → Message → List Due
+dues_in None message = map due_needed (message ∷ inner_messages message)
+dues_in (Some mark) message = record { number = message.number; action = Nothing } ∷ []
 
 -- the bytes of bodies that messages take at most, accepted or not
 abbrev pub dues_most : List Due → ℕ

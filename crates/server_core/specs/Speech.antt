@@ -1,5 +1,6 @@
 -- What one session says in an event, in room that was taken before.
 use Rattle.std.specs.Prelude.{◌≡◌, ◌≤◌, ℕ, ◌+◌, []}
+use Rattle.outbox.specs.Replies.{kept_bytes_max, kept_replies_max}
 use Rattle.server_output.specs.Batch.{packets_most}
 use Rattle.server_output.specs.Items.{new_session_bytes}
 use Rattle.server_rules.specs.Event.{Setting, Speaker}
@@ -19,8 +20,8 @@ pub record IsRoomFor (messages bytes : ℕ) (speech : Speech) : Type 0 where
 -- there is room for all that a session says when a connection is opened for it: that it is new, and all kept replies
 pub record CanAttach (standing : SessionState) (speech : Speech) : Type 0 where
   pub room : IsRoomFor (kept_count standing + 1) (kept_bytes standing + new_session_bytes) speech
-  pub few : kept_count standing ≤ 4096
-  pub short : kept_bytes standing ≤ 4194304
+  pub few : kept_count standing ≤ kept_replies_max
+  pub short : kept_bytes standing ≤ kept_bytes_max
 
 -- a session after a connection was opened for it, and after all that it owes then went out
 abbrev pub attached : {S : Type 0} → Setting S → Speaker S → Speaker S

@@ -3,8 +3,10 @@ use Rattle.std.specs.Prelude.{◌≡◌, ◌≤◌, ℕ, ◌+◌, ◌*◌, true,
 use Rattle.auth_keys.specs.declared.ring.RingKey.{RingKey}
 use Rattle.envelope.specs.Packet.{Lock}
 use Rattle.id_window.specs.History.{History}
+use Rattle.regs_service.specs.Served.{reply_bytes_max}
 use Rattle.waits.specs.declared.job.Job.{Job}
 use Rattle.waits.specs.Jobs.{Queue}
+use Rattle.waits.specs.Limits.{most_jobs}
 use Rattle.server_dispatch.specs.Contents.{short_bytes_max}
 use Rattle.server_output.specs.Items.{IsContent, result_bytes}
 use Rattle.server_output.specs.Outs.{AreSent}
@@ -31,8 +33,8 @@ pub record CanWork (foreseen : List ℕ) (most : ℕ) (work : Work) : Type 0 whe
   pub entered : work.entered ≡ foreseen
   pub content : IsContent foreseen
   pub limit : work.limit ≡ most
-  pub few : most ≤ 4096
-  pub short : length foreseen ≤ 262144
+  pub few : most ≤ most_jobs
+  pub short : length foreseen ≤ reply_bytes_max
   pub speech : IsRoomFor (most + 1) (run_bytes (length foreseen) most) work.speech
   pub entries : work.entries ≡ record { entries = []; room = most + 1 }
 

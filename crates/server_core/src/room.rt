@@ -1,14 +1,13 @@
 //! The room that a packet's event takes before anything is judged.
 
-ghost use Rattle.std.specs.Prelude.{◌≡◌, ◌≤◌, ◌*◌, ◌+◌, ◌∷◌, IfOk, OnErr, OnOk, length, map, max};
+ghost use Rattle.std.specs.Prelude.{◌≡◌, ◌≤◌, ◌*◌, ◌+◌, ◌∷◌, ℕ, [], IfOk, OnErr, OnOk, length, max, vec_len};
 ghost use Rattle.waits.specs.Jobs.{Queue, blocked_count_of};
 ghost use Rattle.inbox.specs.Inbox.{message_in};
 ghost use Rattle.inbox.specs.Judging.{judgements, session_after};
-ghost use Rattle.inbox.specs.Kinds.{inner_messages};
 ghost use Rattle.inbox.specs.Refusals.{InEnvelope};
 ghost use Rattle.law_server.specs.Order.{IsOrderly};
-ghost use Rattle.server_rules.specs.Server.{Session, remembered};
-ghost use Rattle.server_dispatch.specs.Action.{due_needed};
+ghost use Rattle.server_rules.specs.Server.{Session, mark_in, remembered};
+ghost use Rattle.server_dispatch.specs.declared.action.Action.TheVariants.{Nothing};
 ghost use Rattle.outbox.specs.Replies.{kept_bytes_max, kept_replies_max};
 ghost use Rattle.server_output.specs.Batch.{packets_most};
 ghost use Rattle.server_rules.specs.Answer.{room_min};
@@ -16,7 +15,7 @@ ghost use Rattle.server_session.specs.Names.{name_kept};
 ghost use Rattle.server_session.specs.Unsaid.{IsCalled};
 ghost use Rattle.server_session.specs.Rooms.{with_replies_left};
 ghost use Rattle.server_session.specs.SessionState.{IsAt, Stands, key_of, number_of, numbers_left, replies_left};
-ghost use Rattle.server_core.specs.Room.{CanTake, dues_most, packet_bytes, packet_messages, settling_messages};
+ghost use Rattle.server_core.specs.Room.{CanTake, dues_in, dues_most, packet_bytes, packet_messages, settling_messages};
 ghost use Rattle.server_core.specs.SettlingAll.{calls_by};
 ghost use Rattle.server_core.specs.Speech.{IsRoomFor};
 
@@ -24,7 +23,7 @@ use crate::speech::Speech;
 use inbox::{Judged, Outer};
 use msg_ids::Moment;
 use octets::Memory;
-use server_dispatch::{Bindings, Due, Entries, NOTICE_BYTES, dues_of};
+use server_dispatch::{Action, Bindings, Due, Entries, NOTICE_BYTES, dues_of};
 use server_session::laws::called_replies_are_few;
 use server_session::{Called, SessionState};
 use std::alloc::Global;
@@ -42,7 +41,8 @@ pub(crate) const SHORT_RESULT_BYTES: usize = 48;
 /// The room for all that a session says and records by a packet, and what its messages need.
 #[derive(Drop)]
 pub(crate) struct PacketRoom {
-    /// What each message needs where it is accepted.
+    /// What each message needs where it is accepted; where the number of the message in the envelope is kept, that one alone,
+    /// which needs nothing accepted.
     pub(crate) dues: Vec<Due>,
     /// None yet, and room for the numbers that are acknowledged.
     pub(crate) acks: Vec<u64>,
@@ -69,10 +69,11 @@ impl PacketRoom {
         jobs: &Jobs,
     ) -> Result<PacketRoom, Memory>
         ensures room { IfOk result (IsPacketRoom standing.now) }
-        ensures dues { IfOk result (λ room. room.dues.items ≡ map due_needed (message_in outer.now ∷ inner_messages (message_in outer.now))) }
+        ensures dues { (now : ℕ) (session : Session) → Stands now standing.now session
+            → IfOk result (λ room. room.dues.items ≡ dues_in (mark_in session outer.now.number) (message_in outer.now)) }
         ensures limit { IfOk result (λ room. room.limit ≡ blocked_count_of (key_of standing.now) (number_of standing.now) jobs.now.jobs + length room.dues.items) }
     {
-        let dues = dues_of(alloc, outer)?;
+        let dues = dues_in(alloc, outer, standing)?;
         let called = called_by(standing, dues.as_slice());
         let count = dues.len();
         let limit = jobs.blocked(standing.key(), standing.number()) + count;
@@ -101,7 +102,8 @@ pub(crate) fn takes_room(
     bindings: &mut Bindings,
 ) -> Result<PacketRoom, Memory>
     ensures room { IfOk result (CanTake standing.new jobs.new.room bindings.new.room) }
-    ensures dues { IfOk result (λ room. room.dues.items ≡ map due_needed (message_in outer.now ∷ inner_messages (message_in outer.now))) }
+    ensures dues { (now : ℕ) (session : Session) → Stands now standing.old session
+        → IfOk result (λ room. room.dues.items ≡ dues_in (mark_in session outer.now.number) (message_in outer.now)) }
     ensures limit { IfOk result (λ room. room.limit ≡ blocked_count_of (key_of standing.old) (number_of standing.old) jobs.old.jobs + length room.dues.items) }
     ensures kept { IfOk result (λ room. standing.new ≡ with_replies_left (max (replies_left standing.old) (settling_messages (length room.dues.items) room.limit)) standing.old) }
     ensures same_jobs { jobs.new.jobs ≡ jobs.old.jobs }
@@ -132,7 +134,8 @@ pub(crate) fn judges_in_room(
 ) -> Result<(PacketRoom, Judged), Memory>
     requires at { IsAt now standing.old }
     ensures room { IfOk result (λ both. CanTake standing.new jobs.new.room bindings.new.room both.0) }
-    ensures dues { IfOk result (λ both. both.0.dues.items ≡ map due_needed (message_in outer.now ∷ inner_messages (message_in outer.now))) }
+    ensures dues { (session : Session) → Stands now standing.old session
+        → IfOk result (λ both. both.0.dues.items ≡ dues_in (mark_in session outer.now.number) (message_in outer.now)) }
     ensures limit { IfOk result (λ both. both.0.limit ≡ blocked_count_of (key_of standing.old) (number_of standing.old) jobs.old.jobs + length both.0.dues.items) }
     ensures judged { (session : Session) → Stands now standing.old session
         → IfOk result (λ both. both.1 ≡ judgements (InEnvelope now session.salts outer.now.salt) (remembered session) (message_in outer.now)) }
@@ -155,6 +158,32 @@ pub(crate) fn judges_in_room(
             Err(memory)
         }
     }
+}
+
+// What each message of a packet needs where it is accepted. Where the number of the message in the envelope is kept, that message
+// came again or gets a notice, and what is inside it isn't judged: so it stands alone, and its body isn't read.
+fn dues_in(alloc: Global, outer: &Outer, standing: &SessionState) -> Result<Vec<Due>, Memory>
+    ensures dues { (now : ℕ) (session : Session) → Stands now standing.now session
+        → IfOk result (λ dues. dues.items ≡ dues_in (mark_in session outer.now.number) (message_in outer.now)) }
+    ensures few { IfOk result (λ dues. vec_len dues ≤ 1021) }
+{
+    match standing.mark(outer.number) {
+        None => dues_of(alloc, outer),
+        Some(_) => due_alone(alloc, outer.number),
+    }
+}
+
+// The message of this number alone, which needs nothing accepted.
+fn due_alone(alloc: Global, number: u64) -> Result<Vec<Due>, Memory>
+    ensures dues { IfOk result (λ dues. dues.items ≡ record { number = number; action = Nothing } ∷ []) }
+    ensures few { IfOk result (λ dues. vec_len dues ≤ 1021) }
+{
+    let mut dues = Vec::with_capacity(alloc, 1)?;
+    dues.push_reserved(Due {
+        number,
+        action: Action::Nothing,
+    });
+    Ok(dues)
 }
 
 // The room for all that a session says by a packet whose messages need this, where so many jobs may fail by it, and so many kept

@@ -2,6 +2,7 @@
 use Rattle.std.specs.Prelude.{◌≡◌, ℕ, nat_le, ◌==◌, ◌%◌, ◌&&◌, Bool, List, [], ◌++◌, length, map, Option, Some, None, ⊤}
 use Rattle.std.specs.List.{filter}
 use Rattle.cipher_modes.specs.CounterMode.{CtrState}
+use Rattle.envelope.specs.Packet.{block_bytes, packet_max, packet_min}
 use Rattle.mt_edge.specs.Links.{Told}
 use Rattle.server_output.specs.declared.outs.Out.{Out}
 use Rattle.transport.specs.Wires as wires
@@ -19,7 +20,7 @@ use Rattle.server_node.specs.declared.line.Line.TheVariants.{Raw, Framed}
 
 -- as long as sealed packets are
 abbrev pub is_sendable : List ℕ → Bool
-is_sendable packet = nat_le 72 (length packet) && (nat_le (length packet) 1048576 && (length packet % 16 == 8))
+is_sendable packet = nat_le packet_min (length packet) && (nat_le (length packet) packet_max && (length packet % block_bytes == 8))
 
 abbrev pub goes_out : List SessionName → Out → Bool
 goes_out heard out = was_heard heard (record { key = out.key; session = out.session }) && is_sendable out.packet

@@ -10,11 +10,12 @@ use inbox::{Mark, Outer};
 use msg_ids::Moment;
 use octets::{Memory, Octets};
 use outbox::Bytes;
+use server_core::SessionName;
 use server_output::{OutgoingMessages, Outs, Packets, packets_most};
 use server_session::SessionState;
 use std::alloc::Global;
 use std::test::*;
-use test_asserts::same;
+use test_asserts::{same, shows, tells};
 use test_keys::{KEY_ID, ring};
 
 // The session says that it is new and which salt is right, and sends that.
@@ -177,4 +178,18 @@ fn a_session_that_answered_has_its_names(rt: HostRuntime) -> Result<(), Fail> {
         (KEY_ID, 9, true),
     )?;
     Ok(())
+}
+
+#[test]
+fn a_name_is_written_in_hexadecimal_digits(rt: HostRuntime) -> Result<(), Fail> {
+    let name = SessionName {
+        key: 0xab,
+        session: 9,
+    };
+    tells(rt.alloc(), &name, "00000000000000ab/0000000000000009")?;
+    shows(
+        rt.alloc(),
+        &name,
+        "SessionName(00000000000000ab/0000000000000009)",
+    )
 }

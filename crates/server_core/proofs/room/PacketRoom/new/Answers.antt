@@ -24,3 +24,6 @@ returns-clause-room c =
       entries = subst (λ (count : ℕ). c.in_ok-new.field-0 ≡ record { entries = []; room = count + limit }) count c.in_ok-new.ensures;
       numbers = omega (arith, long, c.in_ok-speech_for.ensures.numbers);
     }
+
+pub returns-clause-dues : goal.returns-clause-dues
+returns-clause-dues c = λ now session stands. c.in_ok-dues.ensures.dues now session stands

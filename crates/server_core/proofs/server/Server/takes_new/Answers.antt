@@ -1,18 +1,16 @@
-use Rattle.std.proofs.Common.{◌≡◌, ◌∙◌, ◌+◌, ◌≤◌, ℕ, true, None, Result, Ok, Err, List, ◌∷◌, length, map, ap, sym, subst, refl, arith}
+use Rattle.std.proofs.Common.{◌≡◌, ◌∙◌, ◌+◌, ◌≤◌, ℕ, true, None, Result, Ok, Err, List, length, ap, sym, subst, refl, arith}
 use Rattle.std.specs.List.{position}
 use Rattle.std.specs.Prelude.{IsSome, OnErr}
 use Rattle.auth_keys.specs.declared.ring.RingKey.{RingKey}
 use Rattle.auth_keys.specs.Rings.{entry_of}
 use Rattle.inbox.specs.declared.judged.Judgement.{Judgement}
-use Rattle.inbox.specs.Kinds.{inner_messages}
 use Rattle.server_dispatch.specs.declared.dues.Due.{Due}
-use Rattle.server_dispatch.specs.Action.{due_needed}
 use Rattle.server_dispatch.specs.Rings.{AreOf}
 use Rattle.waits.specs.Held.{Held}
 use Rattle.waits.specs.Jobs.{Queue}
 use Rattle.server_rules.specs.Answer.{Answer, after_packet, begun, message_in}
 use Rattle.server_rules.specs.Event.{Envelope, Setting, State}
-use Rattle.server_rules.specs.Server.{Binding, Name, Session, remembered, session_named}
+use Rattle.server_rules.specs.Server.{Binding, Name, Session, mark_in, remembered, session_named}
 use Rattle.law_server.specs.Order.{jobs_of}
 use Rattle.server_session.specs.declared.session.SessionState.{SessionState}
 use Rattle.server_session.specs.Names.{name_kept}
@@ -22,7 +20,7 @@ use Rattle.server_core.specs.Among.{Among, ended_among, heard_among, takes_among
 use Rattle.server_core.specs.Effects.{Gives}
 use Rattle.server_core.specs.Failures.{blocked_of}
 use Rattle.server_core.specs.Packets.{Fits, bodies_of, brought, judged_of, kept_so}
-use Rattle.server_core.specs.Room.{CanTake}
+use Rattle.server_core.specs.Room.{CanTake, dues_in}
 use Rattle.server_core.specs.Server.{CanSpeak, Kept, Stands}
 use Rattle.server_core.specs.Sessions.{is_kept_as}
 use Rattle.server_core.specs.SettlingAll.{AreDue, are_numbered}
@@ -126,7 +124,7 @@ returns-clause-given g c = λ keys server of stands order.
     let has = judged-so setting envelope c.in_ok-others.others one c.judges_in_room.new.standing c.makes_place.new.jobs.jobs c.makes_place.new.jobs.jobs
     server.bindings c.judges_in_room.new.bindings.bindings c.new.new.draw judged heard is_heard after refl same_bindings judged_is alone ordered in
     let bodies = bodies_of setting envelope session in
-    let due_is : taken.dues.items ≡ map due_needed (message_in envelope ∷ inner_messages (message_in envelope)) = c.in_ok-both.ensures.dues in
+    let due_is : taken.dues.items ≡ dues_in (mark_in session envelope.number) (message_in envelope) = c.in_ok-both.ensures.dues session is_heard.stands in
     let J : List Judgement → Type 0 = λ judged. AreDue judged bodies taken.dues.items in
     let E : List Due → Type 0 = λ dues. AreDue (judged_of setting envelope session) bodies dues in
     let due : AreDue judged bodies taken.dues.items =
