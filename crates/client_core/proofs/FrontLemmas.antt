@@ -98,15 +98,18 @@ pub record Split (held : Bool) (place at : ℕ) (rows : List Row) (row : Row) : 
   pub gone : (change : Row → Row) → ((own : Row) → waits_row (change own) ≡ false) → (more : ℕ)
       → bytes_from held place (suc more) (changed_at at change rows) ≡ before + front_bytes held (suc more) rest
 
+from_none : (n : ℕ) → n ≡ 0 + n
+from_none n = omega arith
+
 split_here : (held : Bool) (row : Row) (rows : List Row) → waits_row row ≡ true → Split held 0 0 (row ∷ rows) row
 split_here held row rows is = record {
   here = refl;
   before = 0;
   rest = rows;
   past = refl;
-  now = λ more. front_on held more row rows is;
-  next = λ most. from_on held 0 most row rows is;
-  gone = λ change goes more. from_over held 0 (suc more) (change row) rows (goes row);
+  now = λ more. front_on held more row rows is ∙ from_none (call_bytes row + front_bytes held (behind_row held row more) rows);
+  next = λ most. from_on held 0 most row rows is ∙ from_none (call_bytes row + front_bytes held most rows);
+  gone = λ change goes more. from_over held 0 (suc more) (change row) rows (goes row) ∙ from_none (front_bytes held (suc more) rows);
 }
 
 split_past : (held : Bool) (place at : ℕ) (row own : Row) (rows : List Row) → waits_row row ≡ true → Split held place at rows own → Split held (suc place) (suc at) (row ∷ rows) own
@@ -157,7 +160,8 @@ SplitAt held place at rows = (row : Row) × Split held place at rows row
 pub split_at : (held : Bool) (place found : ℕ) (rows : List Row) → slice_get (places_from waits_row 0 rows) place ≡ Some found → SplitAt held place found rows
 split_at held place found rows told =
     let got = split_from held 0 place found rows told in
-    (got.1.1.0, subst (λ (n : ℕ). Split held place n rows got.1.1.0) (sym got.1.0) got.1.1.1)
+    let same : got.0 ≡ found = omega (arith, got.1.0) in
+    (got.1.1.0, subst (λ (n : ℕ). Split held place n rows got.1.1.0) same got.1.1.1)
 
 pub queued_at : (inside core : Contents) (place : ℕ) (call : CallNo) → inside ≡ core
     → Some call ≡ option_map call_no (slice_get (places_from waits_row 0 inside.calls.rows) place) → IsQueuedAt place call core.calls.rows

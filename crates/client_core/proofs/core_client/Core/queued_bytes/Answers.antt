@@ -1,4 +1,4 @@
-use Rattle.std.proofs.Common.{◌∙◌, ◌+◌, ℕ, length, ap, sym, refl, subst, arith}
+use Rattle.std.proofs.Common.{◌+◌, ℕ, length, ap, sym, refl, subst, arith}
 use Rattle.call_table.specs.declared.call.Group.TheVariants as group
 use Rattle.call_table.specs.Table.{places_from}
 use Rattle.call_table.specs.Kept.{is_row_in}

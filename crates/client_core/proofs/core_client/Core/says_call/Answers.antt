@@ -1,4 +1,4 @@
-use Rattle.std.proofs.Common.{◌≡◌, ◌∙◌, ◌-◌, ap, refl, sym, arith}
+use Rattle.std.proofs.Common.{◌≡◌, ◌∙◌, ap, refl, sym}
 use Rattle.std.proofs.lemmas.Bool.{true≢false}
 use Rattle.call_table.specs.declared.call.Group.TheVariants as group
 use Rattle.call_table.specs.declared.call.Fate.TheVariants as fate
@@ -62,9 +62,7 @@ returns-in-Goes-clause-bytes_behind g c out place told has = room_behind _ _ _ (
 
 pub returns-in-Waits-clause-bytes_behind : goal.returns-in-Waits-clause-bytes_behind
 returns-in-Waits-clause-bytes_behind g c out place told has =
-    let held = ap (λ (core : Contents). holds_back core.rest.temporary) c.self.view_is in
-    let rows = ap (λ (core : Contents). core.calls.rows) c.self.view_is in
-    room_waits c.args.self.now _ place c.args.call _ (held, rows)
+    room_waits c.args.self.now c.args.self.now place c.args.call _ (refl, refl)
     (waits_so _ _ (λ still first. waits_not (c.in-Waits.ensures.first still first))) told has
 
 pub returns-in-Never-clause-bytes_left : goal.returns-in-Never-clause-bytes_left

@@ -1,4 +1,4 @@
-use Rattle.std.proofs.Common.{◌∙◌, ◌-◌, ℕ, Option, Some, ap, refl, sym}
+use Rattle.std.proofs.Common.{◌∙◌, ◌-◌, ℕ, Option, Some, ap, sym}
 use Rattle.call_table.specs.Kept.{Contents as Calls}
 use Rattle.call_table.specs.Table.{at}
 use Rattle.client_rules.specs.Client.{calls_of, with_call}

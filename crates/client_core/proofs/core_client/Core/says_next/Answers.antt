@@ -18,14 +18,14 @@ returns-else-says_call-clause-so_far g c first k count less so =
 pub says_call-requires-clause-bytes : goal.says_call-requires-clause-bytes
 says_call-requires-clause-bytes g c less =
     room_of c.args.self.now c.args.place c.in-Some.call c.args.draft.now c.requires.room c.requires.bytes
-    (queued_at c.self.inside c.args.self.now c.args.place c.in-Some.call c.self.view_is c.in-Some.ensures.kept) less
+    (queued_at _ c.args.self.now c.args.place c.in-Some.call c.self.view_is c.in-Some.ensures.kept) less
 
 pub returns-then-says_call-clause-bytes_left : goal.returns-then-says_call-clause-bytes_left
 returns-then-says_call-clause-bytes_left g c =
     c.says_call.ensures.bytes_left c.if-says_call.true c.args.place
-    (queued_at c.self.inside c.args.self.now c.args.place c.in-Some.call c.self.view_is c.in-Some.ensures.kept) c.requires.bytes
+    (queued_at _ c.args.self.now c.args.place c.in-Some.call c.self.view_is c.in-Some.ensures.kept) c.requires.bytes
 
 pub returns-else-says_call-clause-bytes_left : goal.returns-else-says_call-clause-bytes_left
 returns-else-says_call-clause-bytes_left g c =
     c.says_call.ensures.bytes_behind c.if-says_call.false c.args.place
-    (queued_at c.self.inside c.args.self.now c.args.place c.in-Some.call c.self.view_is c.in-Some.ensures.kept) c.requires.bytes
+    (queued_at _ c.args.self.now c.args.place c.in-Some.call c.self.view_is c.in-Some.ensures.kept) c.requires.bytes

@@ -1,4 +1,4 @@
-use Rattle.std.proofs.Common.{◌≡◌, ◌∙◌, ◌-◌, Some, ap, refl, sym, arith}
+use Rattle.std.proofs.Common.{◌∙◌, ap, refl, sym, arith}
 use Rattle.call_table.specs.declared.call.Living.{Living}
 use Rattle.call_table.specs.Kept.{Contents as Calls, sent_row}
 use Rattle.std.specs.Prelude.{option_map}
