@@ -6,6 +6,7 @@ pub mod DropLemmas
 pub mod DueLemmas
 pub mod FillLemmas
 pub mod FlushLemmas
+pub mod FrontLemmas
 pub mod GivingLemmas
 pub mod GoesLemmas
 pub mod HolderLemmas

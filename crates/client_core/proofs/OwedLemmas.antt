@@ -1,114 +1,111 @@
 -- How many bytes what waits comes to.
-use Rattle.std.proofs.Common.{◌≡◌, ◌∙◌, ℕ, zero, suc, ◌+◌, ◌-◌, ◌≤◌, Bool, true, false, List, [], ◌∷◌, ◌++◌, Option, Some, None, length, drop, take, min, ap, refl, sym, subst, inl, inr, append_assoc, arith}
-use Rattle.std.specs.Prelude.{if◌then◌else◌, nat_lt, option_map, slice_get}
+use Rattle.std.proofs.Common.{◌≡◌, ◌∙◌, ℕ, zero, suc, ◌+◌, ◌-◌, ◌≤◌, Bool, true, false, List, [], ◌∷◌, Option, Some, None, length, take, min, ap, refl, sym, subst, inl, inr, arith}
+use Rattle.std.specs.Prelude.{if◌then◌else◌, is_some, nat_lt, option_map, slice_get}
 use Rattle.std.proofs.lemmas.Bool.{cases_Bool, true≢false}
-use Rattle.std.proofs.lemmas.List.{length_push}
 use Rattle.call_table.specs.declared.call.CallNo.{CallNo}
 use Rattle.call_table.specs.declared.call.Group.TheVariants as group
 use Rattle.call_table.specs.declared.row.Row.{Row}
 use Rattle.call_table.specs.declared.row.Progress.{Progress}
 use Rattle.call_table.specs.declared.row.Progress.TheVariants as progress
-use Rattle.call_table.specs.Table.{State, Queued, at, call_no, changed_at, is_queued, is_sent, places_from, with_own, with_number}
+use Rattle.call_table.specs.Table.{at, call_no, is_sent, places_from, with_own, with_number}
 use Rattle.call_table.specs.Kept.{is_row_in, number_in, numbers_in, state_of}
 use Rattle.envelope.specs.Packet.{sealed_size}
-use Rattle.client_rules.specs.Client.{Waiting}
-use Rattle.client_rules.specs.Filling.{numbers_max}
+use Rattle.client_rules.specs.Client.{Asked, Binding, Bound, Held, Needed, Refused, Waiting}
+use Rattle.client_rules.specs.Filling.{Turn, Goes as Going, numbers_max, turn_under}
 use Rattle.client_core.specs.Calling.{wrap_bytes}
-use Rattle.client_core.specs.Owed.{asked_count, bytes_at, bytes_of, call_bytes, list_bytes, queued_bytes, queued_row, resent_on, row_bytes, small_bytes, states_on, told_bytes, told_on}
+use Rattle.containers.specs.Container.{message_head}
+use Rattle.client_core.specs.Owed.{asked_count, bytes_at, call_bytes, follows_at, list_bytes, may_hold, resent_on, row_bytes, row_follows, small_bytes, states_on, told_bytes, told_on, wrap_most}
 use Rattle.client_core.specs.Draft.{Draft, HasRoomFor, TakesUp}
 use Rattle.client_core.proofs.RoomLemmas.{room_left}
 use Rattle.client_core.proofs.CallLemmas.{value}
 use Rattle.client_core.proofs.MarkLemmas.{places_here}
 
-abbrev waits_row : Row → Bool
-waits_row row = is_row_in group.Queued row
-
--- ---- the queued calls, by their places
-
-end_get : (before : List Row) (row : Row) (rows : List Row) → slice_get (before ++ row ∷ rows) (length before) ≡ Some row
-end_get [] row rows = refl
-end_get (x ∷ before) row rows = end_get before row rows
-
-of_queued : (before rows : List Row) → bytes_of (before ++ rows) (places_from waits_row (length before) rows) ≡ queued_bytes rows
-of_queued before [] = refl
-of_queued before (row ∷ rows) =
-    let all : (before ++ row ∷ []) ++ rows ≡ before ++ row ∷ rows = append_assoc before (row ∷ []) rows in
-    let later : bytes_of (before ++ row ∷ rows) (places_from waits_row (length before + 1) rows) ≡ queued_bytes rows =
-    subst (λ (n : ℕ). bytes_of (before ++ row ∷ rows) (places_from waits_row n rows) ≡ queued_bytes rows) (length_push before row)
-    (subst (λ (own : List Row). bytes_of own (places_from waits_row (length (before ++ row ∷ [])) rows) ≡ queued_bytes rows) all (of_queued (before ++ row ∷ []) rows)) in
-    elim (cases_Bool (waits_row row)) [
-      | inl holds ↦
-          let here : row_bytes (slice_get (before ++ row ∷ rows) (length before)) ≡ call_bytes row.body = ap row_bytes (end_get before row rows) in
-          let own : queued_row row ≡ call_bytes row.body = ap (λ (b : Bool). if b then call_bytes row.body else 0) holds in
-          ap (bytes_of (before ++ row ∷ rows)) (places_here waits_row (length before) row rows true holds) ∙ omega (arith, here, own, later)
-      | inr fails ↦
-          let own : queued_row row ≡ 0 = ap (λ (b : Bool). if b then call_bytes row.body else 0) fails in
-          ap (bytes_of (before ++ row ∷ rows)) (places_here waits_row (length before) row rows false fails) ∙ omega (arith, own, later)
-    ]
-
-pub all_queued : (rows : List Row) → bytes_of rows (places_from waits_row 0 rows) ≡ queued_bytes rows
-all_queued rows = of_queued [] rows
-
--- one more place
-next_bytes : (rows : List Row) (places : List ℕ) (k : ℕ) → bytes_at rows (slice_get places k) + bytes_of rows (drop (suc k) places) ≡ bytes_of rows (drop k places)
-next_bytes rows [] zero = refl
-next_bytes rows [] (suc k) = refl
-next_bytes rows (place ∷ places) zero = refl
-next_bytes rows (place ∷ places) (suc k) = next_bytes rows places k
-
-pub more_bytes : (rows : List Row) (places : List ℕ) (k : ℕ) → bytes_at rows (slice_get places k) + bytes_of rows (drop (k + 1) places) ≡ bytes_of rows (drop k places)
-more_bytes rows places k =
-    let more : k + 1 ≡ suc k = omega arith in
-    ap (λ n. bytes_at rows (slice_get places k) + bytes_of rows (drop n places)) more ∙ next_bytes rows places k
-
-pub none_bytes : (rows : List Row) (places : List ℕ) (k : ℕ) → length places ≤ k → bytes_of rows (drop k places) ≡ 0
-none_bytes rows [] zero few = refl
-none_bytes rows [] (suc k) few = refl
-none_bytes rows (place ∷ places) zero few = absurd (omega arith)
-none_bytes rows (place ∷ places) (suc k) few = none_bytes rows places k (omega arith)
-
 -- ---- the bytes at a place
 
-row_told : (own : Option Row) (body : List ℕ) → option_map (λ row. row.body) own ≡ Some body → row_bytes own ≡ call_bytes body
-row_told None body told = grind (arith, told)
-row_told (Some row) body told = ap (λ (own : Option (List ℕ)). call_bytes (value row.body own)) told
+sized_by : (row : Row) (body : List ℕ) (after : Option CallNo) → Some row.body ≡ Some body → Some row.after ≡ Some after → call_bytes row ≡ message_head + (wrap_most after + length body)
+sized_by row body after is told =
+    ap (λ own. message_head + (wrap_most row.after + length (value body own))) is ∙ ap (λ own. message_head + (wrap_most (value after own) + length body)) told
 
-pub at_told : (rows : List Row) (own : Option ℕ) (call : CallNo) (body : List ℕ) → Some call ≡ option_map call_no own → option_map (λ row. row.body) (at call rows) ≡ Some body → bytes_at rows own ≡ call_bytes body
-at_told rows None call body told is = grind (arith, told)
-at_told rows (Some place) call body told is =
+follows_by : (own : Option Row) (after : Option CallNo) → option_map (λ row. row.after) own ≡ Some after → is_some after ≡ row_follows own
+follows_by None after told = grind (arith, told)
+follows_by (Some row) after told = ap (λ own. is_some (value after own)) (sym told)
+
+sized : (own : Option Row) (body : List ℕ) (after : Option CallNo) → option_map (λ row. row.body) own ≡ Some body → option_map (λ row. row.after) own ≡ Some after
+    → row_bytes own ≡ message_head + (wrap_most after + length body)
+sized None body after is told = grind (arith, is)
+sized (Some row) body after is told = sized_by row body after is told
+
+pub at_told : (rows : List Row) (own : Option ℕ) (call : CallNo) (body : List ℕ) (after : Option CallNo) → Some call ≡ option_map call_no own
+    → option_map (λ row. row.body) (at call rows) ≡ Some body → option_map (λ row. row.after) (at call rows) ≡ Some after
+    → bytes_at rows own ≡ message_head + (wrap_most after + length body)
+at_told rows None call body after told is so = grind (arith, told)
+at_told rows (Some place) call body after told is so =
     let same : call.n ≡ place + 1 = ap (λ (one : Option CallNo). (value call one).n) told in
     let there : call.n - 1 ≡ place = omega (arith, same) in
-    row_told (slice_get rows place) body (subst (λ (n : ℕ). option_map (λ row. row.body) (slice_get rows n) ≡ Some body) there is)
+    sized (slice_get rows place) body after (subst (λ (n : ℕ). option_map (λ row. row.body) (slice_get rows n) ≡ Some body) there is)
+    (subst (λ (n : ℕ). option_map (λ row. row.after) (slice_get rows n) ≡ Some after) there so)
 
 pub none_told : (rows : List Row) (own : Option ℕ) → None ≡ option_map call_no own → bytes_at rows own ≡ 0
 none_told rows None told = refl
 none_told rows (Some place) told = grind (arith, told)
 
--- ---- a row is changed
+pub follows_told_at : (rows : List Row) (own : Option ℕ) (call : CallNo) (after : Option CallNo) → Some call ≡ option_map call_no own
+    → option_map (λ row. row.after) (at call rows) ≡ Some after → is_some after ≡ follows_at rows own
+follows_told_at rows None call after told so = grind (arith, told)
+follows_told_at rows (Some place) call after told so =
+    let same : call.n ≡ place + 1 = ap (λ (one : Option CallNo). (value call one).n) told in
+    let there : call.n - 1 ≡ place = omega (arith, same) in
+    follows_by (slice_get rows place) after (subst (λ (n : ℕ). option_map (λ row. row.after) (slice_get rows n) ≡ Some after) there so)
 
-pub queued_kept : (change : Row → Row) → ((row : Row) → queued_row (change row) ≡ queued_row row) → (place : ℕ) (rows : List Row) → queued_bytes (changed_at place change rows) ≡ queued_bytes rows
-queued_kept change keeps place [] = refl
-queued_kept change keeps zero (row ∷ rows) = let here = keeps row in omega arith
-queued_kept change keeps (suc place) (row ∷ rows) = let later = queued_kept change keeps place rows in omega arith
+pub follows_none : (rows : List Row) (own : Option ℕ) → None ≡ option_map call_no own → false ≡ follows_at rows own
+follows_none rows None told = refl
+follows_none rows (Some place) told = grind (arith, told)
 
--- a queued call has its own
-own_bytes : (row : Row) (body : List ℕ) → Some (state_of row.progress) ≡ Some Queued → Some row.body ≡ Some body → queued_row row ≡ call_bytes body
-own_bytes row body queued is =
-    let state : state_of row.progress ≡ Queued = ap (value Queued) queued in
-    ap (λ (own : State). if is_queued own then call_bytes row.body else 0) state ∙ ap (λ (own : Option (List ℕ)). call_bytes (value body own)) is
+-- ---- with which number a call goes
 
-pub queued_less : (change : Row → Row) → ((row : Row) → queued_row (change row) ≡ 0) → (place : ℕ) (rows : List Row) (body : List ℕ)
-    → option_map (λ row. state_of row.progress) (slice_get rows place) ≡ Some Queued → option_map (λ row. row.body) (slice_get rows place) ≡ Some body
-    → queued_bytes (changed_at place change rows) + call_bytes body ≡ queued_bytes rows
-queued_less change goes place [] body queued is = grind (arith, is)
-queued_less change goes zero (row ∷ rows) body queued is = let here = own_bytes row body queued is in let gone = goes row in omega (arith, here, gone)
-queued_less change goes (suc place) (row ∷ rows) body queued is = let later = queued_less change goes place rows body queued is in omega arith
+pub wrap_few : (wrap : Option ℕ) → wrap_bytes wrap ≤ 12
+wrap_few None = omega arith
+wrap_few (Some number) = omega arith
 
--- a call leaves the queue
-pub queued_fewer : (change : Row → Row) → ((row : Row) → queued_row (change row) ≡ 0) → (place : ℕ) (rows : List Row) → queued_bytes (changed_at place change rows) ≤ queued_bytes rows
-queued_fewer change goes place [] = omega arith
-queued_fewer change goes zero (row ∷ rows) = let gone = goes row in omega arith
-queued_fewer change goes (suc place) (row ∷ rows) = let later = queued_fewer change goes place rows in omega arith
+first_so : (after : Option CallNo) → is_some after ≡ false → after ≡ None
+first_so None is = refl
+first_so (Some earlier) is = absurd (true≢false is)
+
+pub first_after : (own : Option Row) (after : Option CallNo) → option_map (λ row. row.after) own ≡ Some after → row_follows own ≡ false → after ≡ None
+first_after own after told is = first_so after (follows_by own after told ∙ is)
+
+wrap_less_by : (wrap : Option ℕ) (after : Option CallNo) → (is_some after ≡ false → wrap ≡ None) → wrap_bytes wrap ≤ wrap_most after
+wrap_less_by wrap None so = omega (arith, ap wrap_bytes (so refl))
+wrap_less_by wrap (Some earlier) so = wrap_few wrap
+
+-- a call goes in as many bytes as are counted at most
+pub goes_within : (own : Option Row) (wrap : Option ℕ) (body : List ℕ) → option_map (λ row. row.body) own ≡ Some body → (row_follows own ≡ false → wrap ≡ None)
+    → message_head + (wrap_bytes wrap + length body) ≤ row_bytes own
+goes_within None wrap body is so = absurd (grind (arith, is))
+goes_within (Some row) wrap body is so =
+    let same = ap (λ (own : Option (List ℕ)). length (value body own)) is in
+    omega (arith, same, wrap_less_by wrap row.after so)
+
+pub under_first : (binding : Binding) (turn : Turn) → may_hold binding ≡ false → turn_under binding turn ≡ turn
+under_first Needed turn is = absurd (true≢false is)
+under_first (Asked message) turn is = absurd (true≢false is)
+under_first Held turn is = absurd (true≢false is)
+under_first Bound turn is = refl
+under_first (Refused code) turn is = absurd (true≢false is)
+
+abbrev wrap_in : Turn → Option ℕ
+wrap_in (Going wrap) = wrap
+wrap_in other = None
+
+pub wrap_first : (wrap : Option ℕ) → Going None ≡ Going wrap → wrap ≡ None
+wrap_first wrap is = sym (ap wrap_in is)
+
+pub under_wrap : (binding : Binding) (wrap : Option ℕ) → turn_under binding (Going None) ≡ Going wrap → wrap ≡ None
+under_wrap Needed wrap is = absurd (grind (arith, is))
+under_wrap (Asked message) wrap is = absurd (grind (arith, is))
+under_wrap Held wrap is = absurd (grind (arith, is))
+under_wrap Bound wrap is = wrap_first wrap is
+under_wrap (Refused code) wrap is = absurd (grind (arith, is))
 
 -- ---- how many there are
 
@@ -152,10 +149,6 @@ numbers_places place (row ∷ rows) =
     let own = own_len row.progress (numbers_in rows) in
     let there = places_len (is_row_in group.Outstanding) place row rows in
     omega (arith, later, own, there)
-
-pub wrap_few : (wrap : Option ℕ) → wrap_bytes wrap ≤ 12
-wrap_few None = omega arith
-wrap_few (Some number) = omega arith
 
 -- for their states is asked
 pub asked_all : (wish : Bool) (rows : List Row) → wish ≡ true → asked_count wish rows ≡ min (length (numbers_in rows)) numbers_max

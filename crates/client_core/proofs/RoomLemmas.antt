@@ -1,5 +1,5 @@
 -- The room of a packet that is filled.
-use Rattle.std.proofs.Common.{◌≡◌, ◌∙◌, ℕ, ◌+◌, ◌≤◌, Bool, true, false, length, refl, sym, subst, arith}
+use Rattle.std.proofs.Common.{◌≡◌, ◌∙◌, ℕ, ◌+◌, ◌≤◌, ◌<◌, Bool, true, false, length, refl, sym, subst, arith}
 use Rattle.std.specs.Prelude.{not, nat_le}
 use Rattle.std.proofs.lemmas.Bool.{and_parts, leb-true, leb-false}
 use Rattle.containers.specs.Container.{bytes_max, container_head, message_head, messages_max}
@@ -43,6 +43,13 @@ room_there size draft has fits =
     let parts = and_parts (not draft.is_full) _ fits in
     let both = and_parts (nat_le (draft.count + 1) messages_max) _ parts.1 in
     room_by size draft has (leb-true (container_head + length draft.rows + message_head + size) bytes_max both.1) (nat_le (container_head + length draft.rows + draft.room + 1) bytes_max) refl
+
+pub count_there : (size : ℕ) (draft : Draft) → enters size draft ≡ true → draft.count < messages_max
+count_there size draft fits =
+    let parts = and_parts (not draft.is_full) _ fits in
+    let both = and_parts (nat_le (draft.count + 1) messages_max) _ parts.1 in
+    let less = leb-true (draft.count + 1) messages_max both.0 in
+    omega (arith, less)
 
 pub room_full : (bytes : ℕ) (old new : Draft) → new ≡ filled_up old → HasRoomFor bytes old → HasRoomFor bytes new
 room_full bytes old new is has = subst (λ (draft : Draft). HasRoomFor bytes draft) (sym is) (record { enough = has.enough })

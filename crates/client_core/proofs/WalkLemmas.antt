@@ -113,7 +113,7 @@ abbrev no_of : Option CallNo → ℕ
 no_of None = 0
 no_of (Some call) = call.n
 
-got_no : (own : Option ℕ) (call : CallNo) → option_map call_no own ≡ Some call → own ≡ Some (call.n - 1)
+pub got_no : (own : Option ℕ) (call : CallNo) → option_map call_no own ≡ Some call → own ≡ Some (call.n - 1)
 got_no None call told = absurd (grind (arith, told))
 got_no (Some place) call told = ap Some (omega (arith, ap no_of told))
 

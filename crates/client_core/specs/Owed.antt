@@ -1,14 +1,16 @@
 -- How many bytes of messages what waits at a client may come to: scaffolding of private functions, and no promise.
-use Rattle.std.specs.Prelude.{ℕ, ◌+◌, ◌*◌, Bool, true, false, if◌then◌else◌, min, Option, Some, None, List, [], ◌∷◌, length, slice_get}
+use Rattle.std.specs.Prelude.{◌≡◌, ℕ, zero, suc, ◌+◌, ◌-◌, ◌*◌, ◌<◌, ◌||◌, Bool, true, false, if◌then◌else◌, is_some, min, Option, Some, None, List, [], ◌∷◌, length, slice_get}
 use Rattle.tl_codec.specs.Spelling.{string_size}
-use Rattle.containers.specs.Container.{message_head}
+use Rattle.containers.specs.Container.{message_head, messages_max}
+use Rattle.call_table.specs.declared.call.CallNo.{CallNo}
 use Rattle.call_table.specs.declared.call.Group.TheVariants as group
 use Rattle.call_table.specs.declared.row.Row.{Row}
 use Rattle.call_table.specs.Table.{is_queued, places_from}
 use Rattle.call_table.specs.Kept.{is_row_in, numbers_in, state_of}
-use Rattle.client_rules.specs.Client.{States, Waiting}
+use Rattle.client_rules.specs.Client.{Binding, Bound, States, Temporary, Waiting}
 use Rattle.client_rules.specs.Filling.{numbers_max}
 use Rattle.client_core.specs.Asked.{bind_body_bytes}
+use Rattle.client_core.specs.Draft.{Draft, HasRoomFor}
 use Rattle.client_core.specs.Kept.{Contents}
 
 -- a message that names so many others
@@ -58,32 +60,88 @@ binding_bytes = message_head + bind_body_bytes
 abbrev pub drops_bytes : List Row → ℕ
 drops_bytes rows = one_bytes * length (places_from (is_row_in group.Dropping) 0 rows)
 
--- a queued call, at most behind another
-abbrev pub call_bytes : List ℕ → ℕ
-call_bytes body = message_head + 12 + length body
+-- a queued call, at most: one that is to execute after another may go with that one's number
+abbrev pub wrap_most : Option CallNo → ℕ
+wrap_most None = 0
+wrap_most (Some earlier) = 12
 
-abbrev pub queued_row : Row → ℕ
-queued_row row = if is_queued (state_of row.progress) then call_bytes row.body else 0
+abbrev pub call_bytes : Row → ℕ
+call_bytes row = message_head + (wrap_most row.after + length row.body)
 
--- the queued calls
-abbrev pub queued_bytes : List Row → ℕ
-queued_bytes [] = 0
-queued_bytes (row ∷ rows) = queued_row row + queued_bytes rows
+-- the binding of a temporary key may hold calls back
+abbrev pub may_hold : Binding → Bool
+may_hold Bound = false
+may_hold _ = true
+
+abbrev pub holds_back : Option Temporary → Bool
+holds_back None = false
+holds_back (Some temporary) = may_hold temporary.binding
+
+-- how many more calls may go behind a queued call, where so many more may beside it: a call that is to execute after no
+-- other goes when its turn comes, where nothing is held back
+abbrev pub more_behind : Bool → ℕ → ℕ
+more_behind true more = suc more
+more_behind false more = more
+
+abbrev pub behind_row : Bool → Row → ℕ → ℕ
+behind_row held row more = more_behind (held || is_some row.after) more
+
+-- the queued calls up to the last one that may go, where so many may
+abbrev pub front_bytes : Bool → ℕ → List Row → ℕ
+front_bytes held most [] = 0
+front_bytes held zero (row ∷ rows) = 0
+front_bytes held (suc more) (row ∷ rows) =
+    if is_queued (state_of row.progress) then call_bytes row + front_bytes held (behind_row held row more) rows
+    else front_bytes held (suc more) rows
+
+-- so many queued calls, and those up to the last one that may go from there on
+abbrev pub bytes_from : Bool → ℕ → ℕ → List Row → ℕ
+bytes_from held zero most rows = front_bytes held most rows
+bytes_from held (suc place) most [] = 0
+bytes_from held (suc place) most (row ∷ rows) =
+    if is_queued (state_of row.progress) then call_bytes row + bytes_from held place most rows
+    else bytes_from held (suc place) most rows
 
 -- what is found for the place of a call
 abbrev pub row_bytes : Option Row → ℕ
 row_bytes None = 0
-row_bytes (Some row) = call_bytes row.body
+row_bytes (Some row) = call_bytes row
 
 abbrev pub bytes_at : List Row → Option ℕ → ℕ
 bytes_at rows None = 0
 bytes_at rows (Some place) = row_bytes (slice_get rows place)
 
--- and for those of several
-abbrev pub bytes_of : List Row → List ℕ → ℕ
-bytes_of rows [] = 0
-bytes_of rows (place ∷ places) = row_bytes (slice_get rows place) + bytes_of rows places
+-- and whether it is to execute after another
+abbrev pub row_follows : Option Row → Bool
+row_follows None = false
+row_follows (Some row) = is_some row.after
+
+abbrev pub follows_at : List Row → Option ℕ → Bool
+follows_at rows None = false
+follows_at rows (Some place) = row_follows (slice_get rows place)
 
 -- all of it
+abbrev pub front_of : Contents → ℕ
+front_of core = front_bytes (holds_back core.rest.temporary) messages_max core.calls.rows
+
 abbrev pub owed_bytes : Contents → ℕ
-owed_bytes core = waiting_bytes core + (binding_bytes + (drops_bytes core.calls.rows + queued_bytes core.calls.rows))
+owed_bytes core = waiting_bytes core + (binding_bytes + (drops_bytes core.calls.rows + front_of core))
+
+-- ---- the turns of queued calls
+
+-- a call is the queued one that has so many before it
+abbrev pub IsQueuedAt : ℕ → CallNo → List Row → Type 0
+IsQueuedAt place call rows = slice_get (places_from (is_row_in group.Queued) 0 rows) place ≡ Some (call.n - 1)
+
+-- while an item fits there is room for the calls that may go, where the turns came of those before this place
+pub record HasRoomFrom (core : Contents) (place : ℕ) (draft : Draft) : Type 0 where
+  pub enough : draft.is_full ≡ false → (more : ℕ) → draft.count + suc more ≡ messages_max
+      → HasRoomFor (bytes_from (holds_back core.rest.temporary) place (suc more) core.calls.rows) draft
+
+-- a call that is to execute after no other goes with no other's number
+abbrev pub GoesWith : Option ℕ → CallNo → List Row → Type 0
+GoesWith wrap call rows = follows_at rows (Some (call.n - 1)) ≡ false → wrap ≡ None
+
+-- there is room for a call while a message fits
+abbrev pub HasRoomOf : CallNo → List Row → Draft → Type 0
+HasRoomOf call rows draft = draft.count < messages_max → HasRoomFor (bytes_at rows (Some (call.n - 1))) draft

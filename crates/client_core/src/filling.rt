@@ -145,7 +145,7 @@ impl Draft {
         requires words { length body.now % 4 ≡ 0 }
         requires short { length body.now ≤ body_bytes_max }
         requires numbers { messages_max < self.old.count + room numbers.old }
-        requires room { HasRoomFor (message_head + (wrap_bytes wrap + length body.now)) self.old }
+        requires room { self.old.count < messages_max → HasRoomFor (message_head + (wrap_bytes wrap + length body.now)) self.old }
         ensures told { is_some result ≡ enters (wrap_bytes wrap + length body.now) self.old }
         ensures given { IfSome result (λ given. given ≡ (next_number numbers.old.last at, seq_of numbers.old.content_messages true)) }
         ensures counted { OnSome result (numbers.new ≡ after_next numbers.old at true) }
@@ -203,7 +203,7 @@ impl Draft {
         self.is_full
     }
 
-    /// The packet's body, in room that was taken before.
+    /// The packet's body, in room that was taken before. What room the numbers leave over is given up.
     pub(crate) fn finish(self, mut body: Buffer) -> Filled
         requires empty { body.bytes ≡ [] }
         requires room { container_head + length self.rows ≤ body.room }
@@ -220,11 +220,12 @@ impl Draft {
         let Draft {
             rows,
             count,
-            inner,
+            mut inner,
             is_full: _,
             number,
             seq,
         } = self;
+        inner.shrink_to_fit();
         put_packet(&mut body, count, rows.as_slice());
         Filled {
             count,

@@ -1,6 +1,6 @@
 //! What waits beside the calls goes into a packet.
 
-ghost use Rattle.std.specs.Prelude.{◌≡◌, ◌<◌, ◌≤◌, ◌+◌, ◌++◌, ◌∷◌, ℕ, List, [], drop, fold, option_map, slice_get, length, min, take, vec_len, vec_capacity, IfSome, IsSome, IsTrue, IsFalse, false, true, None, Some};
+ghost use Rattle.std.specs.Prelude.{◌≡◌, ◌<◌, ◌≤◌, ◌+◌, ◌++◌, ◌∷◌, ℕ, Bool, List, [], drop, fold, option_map, slice_get, length, min, take, vec_len, vec_capacity, IfSome, IsSome, IsTrue, IsFalse, false, true, None, Some};
 ghost use Rattle.msg_ids.specs.Counters.{after_next, next_number, room, seq_of};
 ghost use Rattle.call_table.specs.Kept.{numbers_in, state_in};
 ghost use Rattle.call_table.specs.Table.{IsGiven, Sent};
@@ -13,7 +13,7 @@ ghost use Rattle.draws.specs.Draws.{draw_after};
 ghost use Rattle.client_rules.specs.Filling.{Filling, changes, says, says_acks, says_binding, says_destroyed, says_drop, says_ping, says_resent, says_salts, says_states, says_told, numbers_max};
 ghost use Rattle.containers.specs.Container.{message_head};
 ghost use Rattle.client_core.specs.Draft.{CanBeSaid, DropsSoFar, Goes, HasNumbers, HasRoomFor, Holds, TakesUp, drops, enters, item_of, needs_answer, said_bytes};
-ghost use Rattle.client_core.specs.Owed.{asked_count, binding_bytes, drops_bytes, list_bytes, one_bytes, queued_bytes, salts_bytes, told_bytes};
+ghost use Rattle.client_core.specs.Owed.{asked_count, binding_bytes, drops_bytes, front_bytes, holds_back, list_bytes, one_bytes, salts_bytes, told_bytes};
 ghost use Rattle.client_core.specs.Asked.{HasRoom, asked_message, bind_body_bytes};
 ghost use Rattle.client_core.specs.Flushed.{setting_of};
 ghost use Rattle.client_core.specs.Kept.{Stands, asked_in, waiting_in};
@@ -242,6 +242,7 @@ impl Core {
             → (says_binding (setting_of D.step (S.keys seal.now)) filling.client.temporary filling).draw ≡ draw.new }
         ensures numbers { HasNumbers self.new draft.new }
         ensures takes { TakesUp binding_bytes draft.old draft.new }
+        ensures held { holds_back self.new.rest.temporary ≡ true → holds_back self.old.rest.temporary ≡ true }
         ensures rest { record self.new.rest { counters = self.old.rest.counters; temporary = self.old.rest.temporary } ≡ self.old.rest }
         ensures calls { self.new.calls ≡ self.old.calls }
     {
@@ -311,7 +312,7 @@ impl Core {
         ensures room { self.new.calls.room ≡ self.old.calls.room }
         ensures numbers { HasNumbers self.new draft.new }
         ensures takes { TakesUp one_bytes draft.old draft.new }
-        ensures queued { queued_bytes self.new.calls.rows ≡ queued_bytes self.old.calls.rows }
+        ensures queued { (held : Bool) (most : ℕ) → front_bytes held most self.new.calls.rows ≡ front_bytes held most self.old.calls.rows }
         ensures rest { record self.new.rest { counters = self.old.rest.counters } ≡ self.old.rest }
     {
         let Some(living) = self.calls.living(call) else {
@@ -340,7 +341,7 @@ impl Core {
         ensures so_far { (first : Filling D) (k count : ℕ) → k < count → DropsSoFar first self.old draft.old k count → DropsSoFar first self.new draft.new (k + 1) count }
         ensures numbers { HasNumbers self.new draft.new }
         ensures takes { TakesUp one_bytes draft.old draft.new }
-        ensures queued { queued_bytes self.new.calls.rows ≡ queued_bytes self.old.calls.rows }
+        ensures queued { (held : Bool) (most : ℕ) → front_bytes held most self.new.calls.rows ≡ front_bytes held most self.old.calls.rows }
         ensures rest { record self.new.rest { counters = self.old.rest.counters } ≡ self.old.rest }
         ensures room { self.new.calls.room ≡ self.old.calls.room }
     {
@@ -356,7 +357,7 @@ impl Core {
         ensures goes { (filling : Filling D) → Goes self.old draft.old filling → Goes self.new draft.new (fold says_drop filling (drops filling)) }
         ensures numbers { HasNumbers self.new draft.new }
         ensures takes { TakesUp (drops_bytes self.old.calls.rows) draft.old draft.new }
-        ensures queued { queued_bytes self.new.calls.rows ≡ queued_bytes self.old.calls.rows }
+        ensures queued { (held : Bool) (most : ℕ) → front_bytes held most self.new.calls.rows ≡ front_bytes held most self.old.calls.rows }
         ensures rest { record self.new.rest { counters = self.old.rest.counters } ≡ self.old.rest }
         ensures room { self.new.calls.room ≡ self.old.calls.room }
     {

@@ -1,14 +1,14 @@
 //! The turn of a queued call.
 
-ghost use Rattle.std.specs.Prelude.{◌≡◌, ◌≤◌, ◌<◌, ◌+◌, ◌^◌, ℕ, fold, length, true, false, IfSome, IsTrue, IsFalse, Some, option_map};
+ghost use Rattle.std.specs.Prelude.{◌≡◌, ◌≤◌, ◌<◌, ◌+◌, ◌-◌, ◌^◌, ℕ, fold, length, true, false, IfSome, IsTrue, IsFalse, None, Option, Some, option_map};
 ghost use Rattle.call_table.specs.Kept.{Stands as StandsFor, state_in};
 ghost use Rattle.call_table.specs.Table.{IsGiven, Queued, Table, at};
 ghost use Rattle.containers.specs.Container.{messages_max};
 ghost use Rattle.client_rules.specs.Client.{Client, calls_of};
 ghost use Rattle.client_rules.specs.Filling.{Filling, Goes as Going, says_call, takes_turn, turn_after, turn_behind, turn_of, turn_under};
 ghost use Rattle.client_core.specs.Calling.{turn_in};
-ghost use Rattle.client_core.specs.Draft.{Goes, HasNumbers, HasRoomFor, LeavesQueue, SoFar, queue};
-ghost use Rattle.client_core.specs.Owed.{queued_bytes};
+ghost use Rattle.client_core.specs.Draft.{Goes, HasNumbers, LeavesQueue, SoFar, queue};
+ghost use Rattle.client_core.specs.Owed.{GoesWith, HasRoomFrom, HasRoomOf, IsQueuedAt, follows_at, holds_back};
 ghost use Rattle.client_core.specs.Kept.{Stands, binding_in};
 
 use crate::binding::Binding;
@@ -33,7 +33,8 @@ pub(crate) enum Turn {
 /// The turn of a call that is to execute after this one, if one is given.
 fn turn_after(calls: &Calls, after: Option<CallNo>) -> Turn
     requires given { IfSome after (λ one. IsGiven one calls.now.rows) }
-    ensures { (table : Table) → StandsFor calls.now table → turn_in result ≡ turn_after table.calls after }
+    ensures told { (table : Table) → StandsFor calls.now table → turn_in result ≡ turn_after table.calls after }
+    ensures first { after ≡ None → turn_in result ≡ Going None }
 {
     match after {
         None => Turn::Goes(None),
@@ -82,7 +83,9 @@ impl Core {
     /// The turn of a call.
     pub(crate) fn turn(&self, call: CallNo) -> Turn
         requires given { IsGiven call self.now.calls.rows }
-        ensures { (client : Client) → Stands self.now client → IfSome (at call (calls_of client)) (λ one. turn_in result ≡ turn_of client one) }
+        ensures told { (client : Client) → Stands self.now client → IfSome (at call (calls_of client)) (λ one. turn_in result ≡ turn_of client one) }
+        ensures wrap { (wrap : Option ℕ) → turn_in result ≡ Going wrap → GoesWith wrap call self.now.calls.rows }
+        ensures first { holds_back self.now.rest.temporary ≡ false → follows_at self.now.calls.rows (Some (call.n - 1)) ≡ false → turn_in result ≡ Going None }
     {
         let turn = turn_after(&self.calls, self.calls.after(call));
         if !self.is_open() {
@@ -98,8 +101,9 @@ impl Core {
     fn sends_call<D: Draw>(&mut self, draft: &mut Draft, call: CallNo, wrap: Option<u64>) -> bool
         requires given { IsGiven call self.old.calls.rows }
         requires queued { state_in call self.old.calls.rows ≡ Some Queued }
+        requires wrap { GoesWith wrap call self.old.calls.rows }
         requires numbers { HasNumbers self.old draft.old }
-        requires bytes { HasRoomFor (queued_bytes self.old.calls.rows) draft.old }
+        requires bytes { HasRoomOf call self.old.calls.rows draft.old }
         requires reserved { messages_max ≤ draft.old.count + self.old.calls.room }
         ensures goes { (filling : Filling D) → Goes self.old draft.old filling
             → IfSome (at call (calls_of filling.client)) (λ one. Goes self.new draft.new (takes_turn call one.body (Going wrap) filling)) }
@@ -107,7 +111,7 @@ impl Core {
             → IfSome (at call (calls_of filling.client)) (λ one. LeavesQueue call filling (takes_turn call one.body (Going wrap) filling)) }
         ensures full { IsFalse result → draft.new.is_full ≡ true }
         ensures numbers { HasNumbers self.new draft.new }
-        ensures bytes_left { HasRoomFor (queued_bytes self.new.calls.rows) draft.new }
+        ensures bytes_left { IsTrue result → (place : ℕ) → IsQueuedAt place call self.old.calls.rows → HasRoomFrom self.old place draft.old → HasRoomFrom self.new place draft.new }
         ensures same_room { length draft.new.rows + draft.new.room ≡ length draft.old.rows + draft.old.room }
         ensures reserved { messages_max ≤ draft.new.count + self.new.calls.room }
         ensures rest { record self.new.rest { counters = self.old.rest.counters } ≡ self.old.rest }
@@ -128,14 +132,15 @@ impl Core {
         requires given { IsGiven call self.old.calls.rows }
         requires queued { state_in call self.old.calls.rows ≡ Some Queued }
         requires numbers { HasNumbers self.old draft.old }
-        requires bytes { HasRoomFor (queued_bytes self.old.calls.rows) draft.old }
+        requires bytes { HasRoomOf call self.old.calls.rows draft.old }
         requires reserved { messages_max ≤ draft.old.count + self.old.calls.room }
         requires room { draft.old.is_full ≡ false }
         ensures goes { (filling : Filling D) → Goes self.old draft.old filling → Goes self.new draft.new (says_call filling call) }
         ensures left { IsTrue result → (filling : Filling D) → Goes self.old draft.old filling → LeavesQueue call filling (says_call filling call) }
         ensures waits { IsFalse result → draft.new.is_full ≡ false → (filling : Filling D) → Goes self.old draft.old filling → says_call filling call ≡ filling }
         ensures numbers { HasNumbers self.new draft.new }
-        ensures bytes_left { HasRoomFor (queued_bytes self.new.calls.rows) draft.new }
+        ensures bytes_left { IsTrue result → (place : ℕ) → IsQueuedAt place call self.old.calls.rows → HasRoomFrom self.old place draft.old → HasRoomFrom self.new place draft.new }
+        ensures bytes_behind { IsFalse result → (place : ℕ) → IsQueuedAt place call self.old.calls.rows → HasRoomFrom self.old place draft.old → HasRoomFrom self.new (place + 1) draft.new }
         ensures same_room { length draft.new.rows + draft.new.room ≡ length draft.old.rows + draft.old.room }
         ensures reserved { messages_max ≤ draft.new.count + self.new.calls.room }
         ensures rest { record self.new.rest { counters = self.old.rest.counters } ≡ self.old.rest }
@@ -156,12 +161,12 @@ impl Core {
         requires small { place + 1 < 2 ^ 64 }
         requires room { draft.old.is_full ≡ false }
         requires numbers { HasNumbers self.old draft.old }
-        requires bytes { HasRoomFor (queued_bytes self.old.calls.rows) draft.old }
+        requires bytes { HasRoomFrom self.old place draft.old }
         requires reserved { messages_max ≤ draft.old.count + self.old.calls.room }
         ensures so_far { (first : Filling D) (k count : ℕ) → k < count → SoFar first self.old draft.old place k count → SoFar first self.new draft.new result (k + 1) count }
         ensures few { result ≤ place + 1 }
         ensures numbers { HasNumbers self.new draft.new }
-        ensures bytes_left { HasRoomFor (queued_bytes self.new.calls.rows) draft.new }
+        ensures bytes_left { HasRoomFrom self.new result draft.new }
         ensures same_room { length draft.new.rows + draft.new.room ≡ length draft.old.rows + draft.old.room }
         ensures reserved { messages_max ≤ draft.new.count + self.new.calls.room }
         ensures rest { record self.new.rest { counters = self.old.rest.counters } ≡ self.old.rest }
@@ -181,7 +186,7 @@ impl Core {
     /// The turns of all queued calls come, in order, until one doesn't fit.
     pub(crate) fn says_calls<D: Draw>(&mut self, draft: &mut Draft)
         requires numbers { HasNumbers self.old draft.old }
-        requires bytes { HasRoomFor (queued_bytes self.old.calls.rows) draft.old }
+        requires bytes { HasRoomFrom self.old 0 draft.old }
         requires reserved { messages_max ≤ draft.old.count + self.old.calls.room }
         ensures goes { (filling : Filling D) → Goes self.old draft.old filling → Goes self.new draft.new (fold says_call filling (queue filling)) }
         ensures numbers { HasNumbers self.new draft.new }

@@ -7,8 +7,10 @@ use Rattle.client_core.specs.Flushed.{setting_of}
 use Rattle.client_core.proofs.FillLemmas.{fills_draw, fills_is, waiting_draw}
 use Rattle.call_table.specs.declared.row.Row.{Row}
 use Rattle.call_table.specs.Kept.{Contents as Calls}
-use Rattle.client_core.specs.Owed.{binding_bytes, drops_bytes, owed_bytes, queued_bytes, waiting_bytes}
+use Rattle.client_core.specs.Owed.{binding_bytes, drops_bytes, front_bytes, holds_back, owed_bytes, waiting_bytes}
+use Rattle.client_core.proofs.FrontLemmas.{room_begins}
 use Rattle.client_core.proofs.RoomLemmas.{room_left, room_less}
+use Rattle.containers.specs.Container.{messages_max}
 use Rattle.client_core.proofs.core_client.Core.fills.Goals as goal
 
 pub returns-clause-goes : goal.returns-clause-goes
@@ -39,23 +41,28 @@ says_waiting-requires-clause-bytes g c = room_less _ _ _ (omega arith) c.require
 
 pub says_binding-requires-clause-bytes : goal.says_binding-requires-clause-bytes
 says_binding-requires-clause-bytes g c =
-    let tells = λ (rows : List Row). drops_bytes rows + queued_bytes rows in
+    let tells = λ (rows : List Row). drops_bytes rows + front_bytes (holds_back c.args.self.now.rest.temporary) messages_max rows in
     let one = room_left (waiting_bytes c.args.self.now) (binding_bytes + tells c.says_waiting.new.self.calls.rows) (owed_bytes c.args.self.now) c.args.draft.now c.says_waiting.new.draft (omega (arith, ap tells c.says_waiting.ensures.rows)) c.requires.bytes c.says_waiting.ensures.takes in
     room_less _ _ _ (omega arith) one
 
 pub says_drops-requires-clause-bytes : goal.says_drops-requires-clause-bytes
 says_drops-requires-clause-bytes g c =
-    let tells = λ (rows : List Row). drops_bytes rows + queued_bytes rows in
+    let tells = λ (rows : List Row). drops_bytes rows + front_bytes (holds_back c.args.self.now.rest.temporary) messages_max rows in
     let one = room_left (waiting_bytes c.args.self.now) (binding_bytes + tells c.says_waiting.new.self.calls.rows) (owed_bytes c.args.self.now) c.args.draft.now c.says_waiting.new.draft (omega (arith, ap tells c.says_waiting.ensures.rows)) c.requires.bytes c.says_waiting.ensures.takes in
     let two = room_left binding_bytes (tells c.says_binding.new.self.calls.rows) (binding_bytes + tells c.says_waiting.new.self.calls.rows) c.says_waiting.new.draft c.says_binding.new.draft (omega (arith, ap (λ (calls : Calls). tells calls.rows) c.says_binding.ensures.calls)) one c.says_binding.ensures.takes in
     room_less _ _ _ (omega arith) two
 
 pub says_calls-requires-clause-bytes : goal.says_calls-requires-clause-bytes
 says_calls-requires-clause-bytes g c =
-    let tells = λ (rows : List Row). drops_bytes rows + queued_bytes rows in
+    let tells = λ (rows : List Row). drops_bytes rows + front_bytes (holds_back c.args.self.now.rest.temporary) messages_max rows in
     let one = room_left (waiting_bytes c.args.self.now) (binding_bytes + tells c.says_waiting.new.self.calls.rows) (owed_bytes c.args.self.now) c.args.draft.now c.says_waiting.new.draft (omega (arith, ap tells c.says_waiting.ensures.rows)) c.requires.bytes c.says_waiting.ensures.takes in
     let two = room_left binding_bytes (tells c.says_binding.new.self.calls.rows) (binding_bytes + tells c.says_waiting.new.self.calls.rows) c.says_waiting.new.draft c.says_binding.new.draft (omega (arith, ap (λ (calls : Calls). tells calls.rows) c.says_binding.ensures.calls)) one c.says_binding.ensures.takes in
-    room_left (drops_bytes c.says_binding.new.self.calls.rows) _ (tells c.says_binding.new.self.calls.rows) _ _ (omega (arith, c.says_drops.ensures.queued)) two c.says_drops.ensures.takes
+    let held = holds_back c.args.self.now.rest.temporary in
+    let kept = ap (λ (rest : Client). holds_back rest.temporary) c.says_drops.ensures.rest in
+    let before = ap holds_back c.says_waiting.ensures.temporary in
+    room_begins c.says_drops.new.self held _ (λ is. sym before ∙ c.says_binding.ensures.held (sym kept ∙ is))
+    (room_left (drops_bytes c.says_binding.new.self.calls.rows) (front_bytes held messages_max c.says_drops.new.self.calls.rows) (tells c.says_binding.new.self.calls.rows) _ _
+    (omega (arith, c.says_drops.ensures.queued held messages_max)) two c.says_drops.ensures.takes)
 
 pub returns-clause-same_room : goal.returns-clause-same_room
 returns-clause-same_room g c =

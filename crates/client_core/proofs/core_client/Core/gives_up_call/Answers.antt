@@ -21,35 +21,35 @@ invariant_of-self g c =
 
 pub returns-in-Goes-clause-goes : goal.returns-in-Goes-clause-goes
 returns-in-Goes-clause-goes g c filling is still =
-    absurd (true≢false (goes_told filling.client (at c.args.call (calls_of filling.client)) (Going c.in-Goes.field-0) (c.in-Goes.ensures filling.client is.client)
+    absurd (true≢false (goes_told filling.client (at c.args.call (calls_of filling.client)) (Going c.in-Goes.field-0) (c.in-Goes.ensures.told filling.client is.client)
     (is_there _ Queued (sym (c.tables_tell.ensures.states _ _ is.client.calls c.args.call) ∙ c.requires.queued)) ∙ still))
 
 pub returns-in-Goes-clause-waits : goal.returns-in-Goes-clause-waits
 returns-in-Goes-clause-waits g c out filling is still =
-    absurd (true≢false (goes_told filling.client (at c.args.call (calls_of filling.client)) (Going c.in-Goes.field-0) (c.in-Goes.ensures filling.client is.client)
+    absurd (true≢false (goes_told filling.client (at c.args.call (calls_of filling.client)) (Going c.in-Goes.field-0) (c.in-Goes.ensures.told filling.client is.client)
     (is_there _ Queued (sym (c.tables_tell.ensures.states _ _ is.client.calls c.args.call) ∙ c.requires.queued)) ∙ still))
 
 pub returns-in-Goes-clause-none : goal.returns-in-Goes-clause-none
 returns-in-Goes-clause-none g c filling other is still =
-    absurd (true≢false (goes_told filling.client (at c.args.call (calls_of filling.client)) (Going c.in-Goes.field-0) (c.in-Goes.ensures filling.client is.client)
+    absurd (true≢false (goes_told filling.client (at c.args.call (calls_of filling.client)) (Going c.in-Goes.field-0) (c.in-Goes.ensures.told filling.client is.client)
     (is_there _ Queued (sym (c.tables_tell.ensures.states _ _ is.client.calls c.args.call) ∙ c.requires.queued)) ∙ still))
 
 pub returns-in-Waits-clause-goes : goal.returns-in-Waits-clause-goes
 returns-in-Waits-clause-goes g c filling is still =
     turn_comes _ _ filling c.args.call Waits (sym is.is_full) (if_any (at c.args.call (calls_of filling.client)) _ (λ (one : Call). is))
-    (c.in-Waits.ensures filling.client is.client)
+    (c.in-Waits.ensures.told filling.client is.client)
     (is_there _ Queued (sym (c.tables_tell.ensures.states _ _ is.client.calls c.args.call) ∙ c.requires.queued))
 
 pub returns-in-Waits-clause-waits : goal.returns-in-Waits-clause-waits
 returns-in-Waits-clause-waits g c out filling is still =
     turn_any (λ own. own ≡ filling) filling c.args.call Waits (sym is.is_full)
-    (if_any (at c.args.call (calls_of filling.client)) _ (λ (one : Call). refl)) (c.in-Waits.ensures filling.client is.client)
+    (if_any (at c.args.call (calls_of filling.client)) _ (λ (one : Call). refl)) (c.in-Waits.ensures.told filling.client is.client)
     (is_there _ Queued (sym (c.tables_tell.ensures.states _ _ is.client.calls c.args.call) ∙ c.requires.queued))
 
 pub returns-in-Waits-clause-none : goal.returns-in-Waits-clause-none
 returns-in-Waits-clause-none g c filling other is still =
     turn_any (λ own. goes_at own.client other ≡ goes_at filling.client other) filling c.args.call Waits (sym is.is_full)
-    (if_any (at c.args.call (calls_of filling.client)) _ (λ (one : Call). refl)) (c.in-Waits.ensures filling.client is.client)
+    (if_any (at c.args.call (calls_of filling.client)) _ (λ (one : Call). refl)) (c.in-Waits.ensures.told filling.client is.client)
     (is_there _ Queued (sym (c.tables_tell.ensures.states _ _ is.client.calls c.args.call) ∙ c.requires.queued))
 
 pub returns-in-Never-clause-goes : goal.returns-in-Never-clause-goes
@@ -58,7 +58,7 @@ returns-in-Never-clause-goes g c filling is still =
     (if_any (at c.args.call (calls_of filling.client)) _ (λ (one : Call).
     goes_so c.args.self.now _ _ nothing_yet filling (with_call c.args.call (settled (fate.Refused 0))) c.self.view_is is
     (λ client rest. rest) (λ client calls. c.settle.ensures.stands client.table calls)))
-    (c.in-Never.ensures filling.client is.client)
+    (c.in-Never.ensures.told filling.client is.client)
     (is_there _ Queued (sym (c.tables_tell.ensures.states _ _ is.client.calls c.args.call) ∙ c.requires.queued))
 
 pub returns-in-Never-clause-left : goal.returns-in-Never-clause-left
@@ -66,7 +66,7 @@ returns-in-Never-clause-left g c went filling is still =
     turn_any (LeavesQueue c.args.call filling) filling c.args.call Never (sym is.is_full)
     (if_any (at c.args.call (calls_of filling.client)) _ (λ (one : Call) place there.
     left_group group.Queued (settled (fate.Refused 0)) (λ own. refl) (calls_of filling.client) c.args.call place there))
-    (c.in-Never.ensures filling.client is.client)
+    (c.in-Never.ensures.told filling.client is.client)
     (is_there _ Queued (sym (c.tables_tell.ensures.states _ _ is.client.calls c.args.call) ∙ c.requires.queued))
 
 pub returns-in-Never-clause-none : goal.returns-in-Never-clause-none
@@ -74,5 +74,5 @@ returns-in-Never-clause-none g c filling other is still =
     let queued = sym (c.tables_tell.ensures.states _ _ is.client.calls c.args.call) ∙ c.requires.queued in
     turn_any (λ own. goes_at own.client other ≡ goes_at filling.client other) filling c.args.call Never (sym is.is_full)
     (if_any (at c.args.call (calls_of filling.client)) _ (λ (one : Call). goes_next c.args.call filling.client (state_waits (at c.args.call (calls_of filling.client)) queued) other))
-    (c.in-Never.ensures filling.client is.client)
+    (c.in-Never.ensures.told filling.client is.client)
     (is_there _ Queued queued)

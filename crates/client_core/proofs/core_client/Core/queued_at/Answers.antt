@@ -17,5 +17,5 @@ returns-in-None-clause-bytes c =
 pub returns-in-Some-clause-bytes : goal.returns-in-Some-clause-bytes
 returns-in-Some-clause-bytes c =
     let rows = c.self.inside.calls.rows in
-    let own = at_told rows (slice_get (places_from (is_row_in group.Queued) 0 rows) c.args.k) c.in-Some.call c.body.result.now c.in-Some.ensures.kept c.body.ensures.kept in
-    omega (arith, own, ap (λ (core : Contents). bytes_at core.calls.rows (slice_get (places_from (is_row_in group.Queued) 0 core.calls.rows) c.args.k)) c.self.view_is)
+    let own = at_told rows (slice_get (places_from (is_row_in group.Queued) 0 rows) c.args.k) c.in-Some.call c.body.result.now c.after.result c.in-Some.ensures.kept c.body.ensures.kept c.after.ensures.kept in
+    omega (arith, own, c.wrap_most-wrap.ensures, ap (λ (core : Contents). bytes_at core.calls.rows (slice_get (places_from (is_row_in group.Queued) 0 core.calls.rows) c.args.k)) c.self.view_is)

@@ -1,14 +1,13 @@
-use Rattle.std.proofs.Common.{◌≡◌, ◌+◌, ◌<◌, drop}
+use Rattle.std.proofs.Common.{◌<◌}
 use Rattle.containers.specs.Container.{bytes_max}
-use Rattle.call_table.specs.declared.call.Group.TheVariants as group
-use Rattle.call_table.specs.Table.{places_from}
-use Rattle.call_table.specs.Kept.{is_row_in}
-use Rattle.client_core.specs.Owed.{bytes_of, queued_bytes}
+use Rattle.client_core.specs.Owed.{holds_back}
+use Rattle.client_core.proofs.FrontLemmas.{IsCounted}
 use Rattle.client_core.proofs.core_client.Core.queued_bytes.Given as goal
 
 -- those that are passed are counted
 abbrev pub invariant-loop-k : goal.invariant-loop-k
 invariant-loop-k l = record {
-  bytes : l.bytes + bytes_of l.fn.self.calls.rows (drop l.k (places_from (is_row_in group.Queued) 0 l.fn.self.calls.rows)) ≡ queued_bytes l.fn.self.calls.rows;
+  counted : IsCounted (holds_back l.fn.self.rest.temporary) l.fn.self.calls.rows l.k l.left l.bytes;
   few : l.bytes < bytes_max;
+  some : 0 < l.left;
 }

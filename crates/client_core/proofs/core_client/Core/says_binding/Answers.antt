@@ -9,6 +9,9 @@ use Rattle.client_core.specs.Asked.{asking_message, needed_of}
 use Rattle.client_core.specs.Flushed.{setting_of}
 use Rattle.client_core.proofs.BoundLemmas.{asked_draw, asked_goes, asked_kept, needed_goes, unasked_draw, under_key}
 use Rattle.client_core.proofs.GoesLemmas.{goes_out, same_goes, told}
+use Rattle.client_core.specs.Kept.{Contents}
+use Rattle.client_core.specs.Owed.{holds_back}
+use Rattle.client_core.proofs.FrontLemmas.{needs_holds}
 use Rattle.client_core.proofs.RoomLemmas.{takes_full}
 use Rattle.client_core.proofs.core_client.Core.says_binding.Goals as goal
 
@@ -91,3 +94,7 @@ returns-then-not-takes-clause-takes g c = takes_full _ _ _ (c.takes.ensures.full
 
 pub returns-clause-takes : goal.returns-clause-takes
 returns-clause-takes g c = rw (sym (c.takes.ensures.kept c.if-not-takes.false)) c.ask_binding.ensures.takes
+
+pub returns-clause-held : goal.returns-clause-held
+returns-clause-held g c is =
+    ap holds_back (ap (λ (core : Contents). core.rest.temporary) (sym c.self.view_is)) ∙ needs_holds _ c.in-Some.needed (sym c.need_of.ensures ∙ c.in-Some.is)

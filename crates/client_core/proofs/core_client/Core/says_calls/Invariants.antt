@@ -1,8 +1,8 @@
 use Rattle.std.proofs.Common.{◌≡◌, ◌+◌, ◌≤◌, length}
 use Rattle.containers.specs.Container.{messages_max}
 use Rattle.client_rules.specs.Filling.{Filling}
-use Rattle.client_core.specs.Draft.{Goes, HasNumbers, HasRoomFor, SoFar}
-use Rattle.client_core.specs.Owed.{queued_bytes}
+use Rattle.client_core.specs.Draft.{Goes, HasNumbers, SoFar}
+use Rattle.client_core.specs.Owed.{HasRoomFrom}
 use Rattle.client_core.proofs.core_client.Core.says_calls.Given as goal
 
 abbrev pub invariant-loop-k : goal.invariant-loop-k
@@ -11,7 +11,7 @@ invariant-loop-k g l = record {
   few : l.place ≤ l.k;
   numbers : HasNumbers l.self l.draft;
   reserved : messages_max ≤ l.draft.count + l.self.calls.room;
-  bytes : HasRoomFor (queued_bytes l.self.calls.rows) l.draft;
+  bytes : HasRoomFrom l.self l.place l.draft;
   same_room : length l.draft.rows + l.draft.room ≡ length l.fn.draft.rows + l.fn.draft.room;
   rest : record l.self.rest { counters = l.fn.self.rest.counters } ≡ l.fn.self.rest;
 }

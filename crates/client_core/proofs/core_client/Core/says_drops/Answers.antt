@@ -19,7 +19,7 @@ loop-k-init g c = record {
   upto = omega arith;
   bytes = room_less _ _ _ (omega (arith, c.members-count.ensures.kept, ap (λ (core : Contents). length (places_from (is_row_in group.Dropping) 0 core.calls.rows)) c.self.view_is)) c.requires.bytes;
   takes = takes_none _ _;
-  queued = refl;
+  queued = λ held most. refl;
 }
 
 pub loop-k-preserved : goal.loop-k-preserved
@@ -31,7 +31,7 @@ loop-k-preserved g c = record {
   upto = omega (arith, c.loop-k-test.true);
   bytes = room_left one_bytes _ _ _ _ (omega (arith, c.loop-k-test.true)) c.loop-k.invariant.bytes c.says_next_drop.ensures.takes;
   takes = takes_both (one_bytes * c.loop-k.k) one_bytes _ _ _ _ (omega arith) c.loop-k.invariant.takes c.says_next_drop.ensures.takes;
-  queued = c.says_next_drop.ensures.queued ∙ c.loop-k.invariant.queued;
+  queued = λ held most. c.says_next_drop.ensures.queued held most ∙ c.loop-k.invariant.queued held most;
 }
 
 pub says_next_drop-requires-clause-bytes : goal.says_next_drop-requires-clause-bytes

@@ -1,7 +1,7 @@
-use Rattle.std.proofs.Common.{◌≡◌, ◌-◌, ◌*◌, ◌≤◌}
+use Rattle.std.proofs.Common.{◌≡◌, ◌-◌, ◌*◌, ◌≤◌, ℕ, Bool}
 use Rattle.client_rules.specs.Filling.{Filling}
 use Rattle.client_core.specs.Draft.{DropsSoFar, Goes, HasNumbers, HasRoomFor, TakesUp}
-use Rattle.client_core.specs.Owed.{one_bytes, queued_bytes}
+use Rattle.client_core.specs.Owed.{front_bytes, one_bytes}
 use Rattle.client_core.proofs.core_client.Core.says_drops.Given as goal
 
 abbrev pub invariant-loop-k : goal.invariant-loop-k
@@ -13,5 +13,5 @@ invariant-loop-k g l = record {
   upto : l.k ≤ l.count;
   bytes : HasRoomFor (one_bytes * (l.count - l.k)) l.draft;
   takes : TakesUp (one_bytes * l.k) l.fn.draft l.draft;
-  queued : queued_bytes l.self.calls.rows ≡ queued_bytes l.fn.self.calls.rows;
+  queued : (held : Bool) (most : ℕ) → front_bytes held most l.self.calls.rows ≡ front_bytes held most l.fn.self.calls.rows;
 }

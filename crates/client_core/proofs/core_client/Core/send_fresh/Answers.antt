@@ -5,8 +5,9 @@ use Rattle.client_core.specs.Flushed.{setting_of}
 use Rattle.client_core.proofs.FlushLemmas.{begins}
 use Rattle.call_table.specs.Kept.{Contents as Calls}
 use Rattle.client_rules.specs.Client.{Waiting}
+use Rattle.containers.specs.Container.{messages_max}
 use Rattle.client_core.specs.Draft.{Draft}
-use Rattle.client_core.specs.Owed.{asked_count, drops_bytes, list_bytes, queued_bytes, told_on}
+use Rattle.client_core.specs.Owed.{asked_count, drops_bytes, front_bytes, holds_back, list_bytes, told_on}
 use Rattle.client_core.proofs.OwedLemmas.{sealed_more}
 use Rattle.client_core.proofs.RoomLemmas.{room_less}
 use Rattle.client_core.proofs.core_client.Core.send_fresh.Goals as goal
@@ -24,7 +25,7 @@ fills-requires-clause-states g c =
 
 pub fills-requires-clause-bytes : goal.fills-requires-clause-bytes
 fills-requires-clause-bytes g c =
-    room_less _ _ _ (omega (arith, ap (λ (waiting : Waiting). told_on waiting c.at.new.self.calls.rows) c.at.ensures.waiting, ap (λ (calls : Calls). list_bytes (length calls.acks) + told_on c.args.self.now.rest.waiting calls.rows + (drops_bytes calls.rows + queued_bytes calls.rows)) c.at.ensures.calls, ap (λ (calls : Calls). list_bytes (length calls.acks)) c.at.ensures.calls, ap (λ (calls : Calls). told_on c.args.self.now.rest.waiting calls.rows) c.at.ensures.calls)) c.requires.owed
+    room_less _ _ _ (omega (arith, ap (λ (waiting : Waiting). told_on waiting c.at.new.self.calls.rows) c.at.ensures.waiting, ap (λ (calls : Calls). list_bytes (length calls.acks) + told_on c.args.self.now.rest.waiting calls.rows + (drops_bytes calls.rows + front_bytes (holds_back c.args.self.now.rest.temporary) messages_max calls.rows)) c.at.ensures.calls, ap (λ temporary. front_bytes (holds_back temporary) messages_max c.at.new.self.calls.rows) c.at.ensures.temporary, ap (λ (calls : Calls). list_bytes (length calls.acks)) c.at.ensures.calls, ap (λ (calls : Calls). told_on c.args.self.now.rest.waiting calls.rows) c.at.ensures.calls)) c.requires.owed
 
 pub send_draft-requires-clause-body_room : goal.send_draft-requires-clause-body_room
 send_draft-requires-clause-body_room g c =

@@ -1,16 +1,17 @@
-use Rattle.std.proofs.Common.{◌≡◌, ◌∙◌, ◌-◌, Some, ap, refl, sym, arith}
-use Rattle.call_table.specs.declared.call.Fate.TheVariants as fate
+use Rattle.std.proofs.Common.{◌∙◌, ap, refl, sym, arith}
 use Rattle.call_table.specs.declared.call.Living.{Living}
-use Rattle.call_table.specs.Kept.{Contents as Calls, sent_row, settled_row, state_in}
+use Rattle.call_table.specs.Kept.{Contents as Calls, sent_row}
+use Rattle.std.specs.Prelude.{option_map}
 use Rattle.msg_ids.specs.Counters.{Counters}
-use Rattle.call_table.specs.Table.{Queued, at}
+use Rattle.call_table.specs.Table.{at, changed}
 use Rattle.client_rules.specs.Client.{calls_of}
 use Rattle.client_rules.specs.Filling.{Goes as Going, takes_turn}
 use Rattle.client_core.specs.Draft.{LeavesQueue}
 use Rattle.client_core.specs.Kept.{Contents}
-use Rattle.client_core.specs.Owed.{queued_bytes}
-use Rattle.client_core.proofs.OwedLemmas.{queued_less, wrap_few}
-use Rattle.client_core.proofs.RoomLemmas.{room_full, room_left, room_less}
+use Rattle.client_core.specs.Owed.{holds_back}
+use Rattle.client_core.proofs.FrontLemmas.{room_goes}
+use Rattle.client_core.proofs.OwedLemmas.{goes_within}
+use Rattle.client_core.proofs.RoomLemmas.{room_less, takes_more}
 use Rattle.client_core.proofs.GoesLemmas.{if_body, kept_calls, sent_leaves}
 use Rattle.client_core.proofs.SoundLemmas.{next_behind, sound_later, sound_sent}
 use Rattle.client_core.proofs.core_client.Core.sends_call.Goals as goal
@@ -32,21 +33,17 @@ returns-in-Some-clause-left g c went filling is =
     (sent_leaves c.args.self.now c.args.draft.now filling c.args.call c.args.wrap c.body.result.now _ is c.in-Some.ensures.size (sym c.in-Some.ensures.told))
 
 pub send-requires-clause-room : goal.send-requires-clause-room
-send-requires-clause-room g c =
-    let rows = c.self.inside.calls.rows in
-    let queued : state_in c.args.call rows ≡ Some Queued = ap (λ (core : Contents). state_in c.args.call core.calls.rows) c.self.view_is ∙ c.requires.queued in
-    let own = queued_less (settled_row (fate.Refused 0)) (λ row. refl) (c.args.call.n - 1) rows c.body.result.now queued c.body.ensures.kept in
-    room_less _ _ _ (omega (arith, own, wrap_few c.args.wrap, ap (λ (core : Contents). queued_bytes core.calls.rows) c.self.view_is)) c.requires.bytes
+send-requires-clause-room g c less =
+    let same = ap (λ (core : Contents). at c.args.call core.calls.rows) c.self.view_is in
+    let within = goes_within (at c.args.call c.args.self.now.calls.rows) c.args.wrap c.body.result.now (sym (ap (option_map (λ row. row.body)) same) ∙ c.body.ensures.kept) c.requires.wrap in
+    room_less _ _ _ within (c.requires.bytes less)
 
 pub returns-in-Some-clause-bytes_left : goal.returns-in-Some-clause-bytes_left
-returns-in-Some-clause-bytes_left g c =
-    let rows = c.self.inside.calls.rows in
-    let queued : state_in c.args.call rows ≡ Some Queued = ap (λ (core : Contents). state_in c.args.call core.calls.rows) c.self.view_is ∙ c.requires.queued in
+returns-in-Some-clause-bytes_left g c went place told has =
     let living : Living = record { number = c.in-Some.number; seq = c.in-Some.seq; wrap = c.args.wrap } in
-    let own = queued_less (sent_row living c.self.inside.salt) (λ row. refl) (c.args.call.n - 1) rows c.body.result.now queued c.body.ensures.kept in
-    let left = ap (λ (calls : Calls). queued_bytes calls.rows) c.send-in-Some.ensures.kept in
-    room_left _ _ _ _ _ (omega (arith, own, left, wrap_few c.args.wrap, ap (λ (core : Contents). queued_bytes core.calls.rows) c.self.view_is)) c.requires.bytes c.send.ensures.takes
-
-pub returns-in-None-clause-bytes_left : goal.returns-in-None-clause-bytes_left
-returns-in-None-clause-bytes_left g c =
-    room_less _ _ _ (omega (arith, ap (λ (core : Contents). queued_bytes core.calls.rows) c.self.view_is)) (room_full _ _ _ c.in-None.ensures.full c.requires.bytes)
+    let same = ap (λ (core : Contents). at c.args.call core.calls.rows) c.self.view_is in
+    let within = goes_within (at c.args.call c.args.self.now.calls.rows) c.args.wrap c.body.result.now (sym (ap (option_map (λ row. row.body)) same) ∙ c.body.ensures.kept) c.requires.wrap in
+    let kept = ap (λ (calls : Calls). calls.rows) c.send-in-Some.ensures.kept ∙ ap (λ (core : Contents). changed c.args.call (sent_row living c.self.inside.salt) core.calls.rows) c.self.view_is in
+    let held = ap (λ (core : Contents). holds_back core.rest.temporary) c.self.view_is in
+    room_goes c.args.self.now _ place c.args.call (sent_row living c.self.inside.salt) _ _ (λ row. refl) (held, kept) c.in-Some.ensures.count c.in-Some.ensures.kept
+    (takes_more _ _ _ _ within c.send.ensures.takes) told has

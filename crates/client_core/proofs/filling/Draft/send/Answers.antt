@@ -1,7 +1,7 @@
 use Rattle.std.proofs.Common.{◌≡◌, ◌∙◌, ◌+◌, true, length, ap, sym, arith}
 use Rattle.client_core.specs.Calling.{wrap_bytes}
 use Rattle.client_core.specs.Draft.{Draft, enters}
-use Rattle.client_core.proofs.RoomLemmas.{room_there, takes_full}
+use Rattle.client_core.proofs.RoomLemmas.{count_there, room_there, takes_full}
 use Rattle.client_core.proofs.filling.Draft.send.Goals as goal
 
 pub put_sent-requires-clause-room : goal.put_sent-requires-clause-room
@@ -9,7 +9,7 @@ put_sent-requires-clause-room c =
     let size = wrap_bytes c.args.wrap + length c.args.body.now in
     let fits : enters size c.args.self.now ≡ true = ap (λ n. enters (n + length c.args.body.now) c.args.self.now) (sym c.wrap_size.ensures) ∙ (sym c.takes.ensures.told ∙ c.if-not-takes.false) in
     let kept = ap (λ (draft : Draft). draft.room) (c.self.view_is ∙ c.takes.ensures.kept c.if-not-takes.false) in
-    omega (arith, room_there size c.args.self.now c.requires.room fits, kept)
+    omega (arith, room_there size c.args.self.now (c.requires.room (count_there size c.args.self.now fits)) fits, kept)
 
 pub returns-then-not-takes-clause-takes : goal.returns-then-not-takes-clause-takes
 returns-then-not-takes-clause-takes c = takes_full _ _ _ (c.takes.ensures.full c.if-not-takes.true)
