@@ -1,6 +1,6 @@
 //! A case: what a run is given, line by line, and what it comes to.
 
-use crate::outside::{Faults, Stream};
+use crate::outside::{Faults, Pieces, Stream};
 use crate::running::{Ended, Given, ran, starts};
 use disks::{MemDisks, MemFile};
 use mt_edge::MemKids;
@@ -16,6 +16,9 @@ const PIECE_BYTES: usize = 4_096;
 /// The bytes of a server's first answer and of the attach behind it, in frames: each read over a link gives so many at most, where
 /// a case says no other.
 const ANSWER_BYTES: usize = 280;
+
+/// Room for the reads of a link where a case says no other.
+const READS: usize = 4_000;
 
 /// What a case has by now: what its run is given, what comes to it over its links and what it sent over them, what a journal holds
 /// that its first server left, and what is told.
@@ -40,7 +43,10 @@ impl Case {
                 reads: (PIECE_BYTES, 0),
                 writes: (PIECE_BYTES, 0),
                 faults: Faults::none(),
-                piece_bytes: ANSWER_BYTES,
+                pieces: Pieces {
+                    bytes: ANSWER_BYTES,
+                    reads: READS,
+                },
             },
             down: Stream::new(alloc),
             up: Stream::new(alloc),
@@ -62,8 +68,8 @@ impl Case {
 
     // The run says what it says over what came so far.
     fn sends(&mut self, alloc: Global) -> Result<(), Fail> {
-        let ended = self.ran(alloc)?;
-        self.up = ended.sent;
+        let sent = sent_by(self.ran(alloc)?);
+        set(&mut self.up, sent);
         Ok(())
     }
 
@@ -80,17 +86,19 @@ impl Case {
         } else {
             Octets::copy(alloc, self.left.as_slice())?
         };
-        let (sent, left) = answer(
+        let answered = answer(
             alloc,
             &self.given,
             words.as_slice(),
             self.up.over(is_first),
             seed,
             journal,
-        )?;
+        );
+        drop(words);
+        let (sent, left) = answered?;
         self.down.set(is_first, sent);
         if is_first {
-            self.left = left;
+            set(&mut self.left, left);
         }
         Ok(())
     }
@@ -98,15 +106,9 @@ impl Case {
     // How a run ends, what it writes, so many bytes of it at most, and the calls of its net and its spawner where they are asked for.
     fn tells(&mut self, alloc: Global, most: usize, verb: &str) -> Result<(), Fail> {
         let ended = self.ran(alloc)?;
-        let text = &mut self.text;
-        put_counted(text, alloc, u64::from(ended.status), "")?;
-        put_front(text, ended.out.as_slice(), most)?;
-        match verb {
-            "pairs" => put_starts(text, alloc, &ended.kids),
-            "serves" => put_served(text, alloc, &ended),
-            "keeps" => put_kept(text, alloc, &ended),
-            _ => Ok(()),
-        }
+        let told = put_ended(&mut self.text, alloc, &ended, most, verb);
+        drop(ended);
+        told
     }
 
     // A line that says what a run is given: whether it is one.
@@ -115,16 +117,18 @@ impl Case {
         let given = &mut self.given;
         match line.verb {
             "word" => given.words.push(String::from_str(alloc, line.rest())?)?,
-            "words" => given.words = words_of(alloc, line.rest())?,
+            "words" => set(&mut given.words, words_of(alloc, line.rest())?),
             "fill" => put(alloc, &mut given.input, line.bytes()?.as_slice())?,
             "each" => put_each(&mut given.input, line)?,
-            "keys" => given.keys = keys_of(alloc, line.rest())?,
-            "file" => given.keys = line.bytes()?,
-            "journal" => given.journal = Some(line.bytes()?),
+            "keys" => set(&mut given.keys, keys_of(alloc, line.rest())?),
+            "file" => set(&mut given.keys, line.bytes()?),
+            "journal" => set(&mut given.journal, Some(line.bytes()?)),
             "read" => given.reads = piece_of(line)?,
             "write" => given.writes = piece_of(line)?,
             "fail" => given.faults.set(line)?,
-            "over" => given.piece_bytes = line.small()? as usize,
+            "over" => given.pieces.bytes = line.small()? as usize,
+            "reads" => given.pieces.reads = line.small()? as usize,
+            "comes" => self.down.first = line.bytes()?,
             _ => return Ok(false),
         }
         Ok(true)
@@ -143,12 +147,15 @@ impl Case {
                 Ok(cut(line.alloc, &mut self.down.first, most)?)
             }
             "again" => {
-                let Ended { disks, .. } = self.ran(line.alloc)?;
-                self.given.journal = Some(held(line.alloc, &disks)?);
+                let ended = self.ran(line.alloc)?;
+                let held = held(line.alloc, &ended.disks);
+                drop(ended);
+                set(&mut self.given.journal, Some(held?));
                 Ok(())
             }
             "turn" => {
-                self.down = std::mem::replace(&mut self.up, Stream::new(line.alloc));
+                let sent = std::mem::replace(&mut self.up, Stream::new(line.alloc));
+                set(&mut self.down, sent);
                 Ok(())
             }
             "front" => {
@@ -160,6 +167,11 @@ impl Case {
             _ => Err(Fail::new("no such line")),
         }
     }
+}
+
+// A value takes the place of another, which is let go of here: a generic function proves that once for each type.
+fn set<T: Drop>(place: &mut T, value: T) {
+    drop(std::mem::replace(place, value));
 }
 
 // What a server of these words writes that hears this over its one connection, and what its journal holds then. The net of a
@@ -184,11 +196,48 @@ fn answer(
         reads: (PIECE_BYTES, 0),
         writes: (PIECE_BYTES, 0),
         faults: Faults::none(),
-        piece_bytes: given.piece_bytes,
+        pieces: given.pieces,
     };
-    let Ended { sent, disks, .. } = ran(alloc, &given, words, &come, seed)?;
-    let Stream { second, .. } = sent;
-    Ok((second, held(alloc, &disks)?))
+    let ended = ran(alloc, &given, words, &come, seed);
+    drop(given);
+    drop(come);
+    let ended = ended?;
+    let left = held(alloc, &ended.disks);
+    let Stream { second, .. } = sent_by(ended);
+    Ok((second, left?))
+}
+
+// What a run wrote over its links; all else of it is let go of here.
+fn sent_by(ended: Ended) -> Stream {
+    let Ended {
+        out,
+        sent,
+        kids,
+        disks,
+        ..
+    } = ended;
+    drop(out);
+    drop(kids);
+    drop(disks);
+    sent
+}
+
+// Puts how a run ended, what it wrote, and what else is asked for.
+fn put_ended(
+    text: &mut String,
+    alloc: Global,
+    ended: &Ended,
+    most: usize,
+    verb: &str,
+) -> Result<(), Fail> {
+    put_counted(text, alloc, u64::from(ended.status), "")?;
+    put_front(text, ended.out.as_slice(), most)?;
+    match verb {
+        "pairs" => put_starts(text, alloc, &ended.kids),
+        "serves" => put_served(text, alloc, ended),
+        "keeps" => put_kept(text, alloc, ended),
+        _ => Ok(()),
+    }
 }
 
 // Puts a number and a word behind it, and ends the line.
@@ -317,6 +366,12 @@ fn piece_of(line: &mut Line<'_>) -> Result<(usize, u64), Fail> {
 pub(crate) fn played(alloc: Global, case: &str) -> Result<String, Fail> {
     let (title, lines) = case.split_once('\n').ok_or("no line")?;
     let mut case = Case::new(alloc)?;
+    let told = told(alloc, &mut case, title, lines);
+    drop(case);
+    told
+}
+
+fn told(alloc: Global, case: &mut Case, title: &str, lines: &str) -> Result<String, Fail> {
     for line in lines.lines() {
         case.plays(&mut Line::of(alloc, line))?;
     }

@@ -10,9 +10,6 @@ use test_lines::Line;
 /// Room for what goes over a link, in bytes.
 const ROOM_BYTES: usize = 10_000;
 
-/// Room for the reads of a link.
-const READS: usize = 4_000;
-
 /// Room for what a journal holds, in bytes, and for the calls of its disk.
 const JOURNAL_BYTES: usize = 4_000;
 
@@ -104,28 +101,35 @@ pub(crate) fn files_of(alloc: Global, keys: &[u8], failing: u64) -> Result<MemFi
     Ok(MemFiles::new(alloc, files, &[failing], 4)?)
 }
 
-// A link over which these bytes come, so many at most in each read and write.
-fn link(alloc: Global, come: &[u8], piece_bytes: usize, failing: u64) -> Result<MemLink, Fail> {
+/// What a link hands over and takes at most in each read and write, in bytes, and its room for reads.
+#[derive(Clone, Copy)]
+pub(crate) struct Pieces {
+    pub(crate) bytes: usize,
+    pub(crate) reads: usize,
+}
+
+// A link over which these bytes come.
+fn link(alloc: Global, come: &[u8], pieces: Pieces, failing: u64) -> Result<MemLink, Fail> {
     Ok(MemLink::new(
         alloc,
         come,
-        piece_bytes.max(1),
+        pieces.bytes.max(1),
         &[failing],
         ROOM_BYTES,
-        READS,
+        pieces.reads.max(1),
     )?)
 }
 
-/// A net with two links over which these bytes come, in order, so many at most in each read and write.
+/// A net with two links over which these bytes come, in order.
 pub(crate) fn net_of(
     alloc: Global,
     come: &Stream,
-    piece_bytes: usize,
+    pieces: Pieces,
     faults: Faults,
 ) -> Result<MemNet, Fail> {
     let mut links = Vec::new(alloc);
-    links.push(link(alloc, come.second.as_slice(), piece_bytes, faults.second)?)?;
-    links.push(link(alloc, come.first.as_slice(), piece_bytes, faults.first)?)?;
+    links.push(link(alloc, come.second.as_slice(), pieces, faults.second)?)?;
+    links.push(link(alloc, come.first.as_slice(), pieces, faults.first)?)?;
     Ok(MemNet::new(alloc, links, &[faults.net], 4)?)
 }
 

@@ -1,6 +1,6 @@
 //! A run of the program, and what it is told to do.
 
-use crate::outside::{Faults, Stream, disks_of, files_of, kids_of, net_of, sent_over};
+use crate::outside::{Faults, Pieces, Stream, disks_of, files_of, kids_of, net_of, sent_over};
 use disks::MemDisks;
 use msg_ids::Moment;
 use mt_edge::{
@@ -15,7 +15,7 @@ use std::test::Fail;
 const OUT_BYTES: usize = 1_048_576;
 
 /// What a run is given: its words, its input, its key file and the file of its journal, the most bytes of a read of its input and of a write, which of
-/// these calls fail, counted from 1, and which others do; the most bytes of a read and of a write over a link.
+/// these calls fail, counted from 1, and which others do; the most bytes of a read and of a write over a link, and its room.
 #[derive(Drop)]
 pub(crate) struct Given {
     pub(crate) words: Vec<String>,
@@ -25,7 +25,7 @@ pub(crate) struct Given {
     pub(crate) reads: (usize, u64),
     pub(crate) writes: (usize, u64),
     pub(crate) faults: Faults,
-    pub(crate) piece_bytes: usize,
+    pub(crate) pieces: Pieces,
 }
 
 /// How a run ended, what it wrote, and what it wrote over each link; the calls of its net and its spawner, and the files of
@@ -88,7 +88,7 @@ fn streams(alloc: Global, given: &Given) -> Result<(MemSource, MemSink), Fail> {
 fn outside_of(alloc: Global, given: &Given, come: &Stream) -> Result<Outside, Fail> {
     Ok(Outside {
         files: files_of(alloc, given.keys.as_slice(), given.faults.files)?,
-        net: net_of(alloc, come, given.piece_bytes, given.faults)?,
+        net: net_of(alloc, come, given.pieces, given.faults)?,
         kids: kids_of(alloc, given.faults.kids)?,
         disks: disks_of(alloc, given.journal.as_ref(), given.faults)?,
     })
@@ -103,16 +103,63 @@ pub(crate) fn ran(
     seed: u8,
 ) -> Result<Ended, Fail> {
     let (mut input, mut out) = streams(alloc, given)?;
-    let mut outside = outside_of(alloc, given, come)?;
-    let status = status_of(alloc, words, &mut input, &mut out, &mut outside, seed)?;
-    Ok(Ended {
-        status,
-        out: Octets::copy(alloc, out.written())?,
-        sent: sent_over(alloc, &outside.net)?,
-        net_calls: outside.net.calls().len(),
-        kids: outside.kids,
-        disks: outside.disks,
-    })
+    let done = match outside_of(alloc, given, come) {
+        Ok(outside) => finished(alloc, words, &mut input, &mut out, outside, seed),
+        Err(fail) => Err(fail),
+    };
+    drop(input);
+    drop(out);
+    done
+}
+
+// Such a run over its input, its output and the rest of its outside, each part of which is let go of at one place.
+fn finished(
+    alloc: Global,
+    words: &[String],
+    input: &mut MemSource,
+    out: &mut MemSink,
+    mut outside: Outside,
+    seed: u8,
+) -> Result<Ended, Fail> {
+    let told = told_of(alloc, words, input, out, &mut outside, seed);
+    let net_calls = outside.net.calls().len();
+    let Outside {
+        files,
+        net,
+        kids,
+        disks,
+    } = outside;
+    drop(files);
+    drop(net);
+    match told {
+        Ok((status, out, sent)) => Ok(Ended {
+            status,
+            out,
+            sent,
+            net_calls,
+            kids,
+            disks,
+        }),
+        Err(fail) => {
+            drop(kids);
+            drop(disks);
+            Err(fail)
+        }
+    }
+}
+
+// The status of such a run, what it wrote, and what it wrote over each link.
+fn told_of(
+    alloc: Global,
+    words: &[String],
+    input: &mut MemSource,
+    out: &mut MemSink,
+    outside: &mut Outside,
+    seed: u8,
+) -> Result<(u8, Octets, Stream), Fail> {
+    let status = status_of(alloc, words, input, out, outside, seed)?;
+    let written = Octets::copy(alloc, out.written())?;
+    Ok((status, written, sent_over(alloc, &outside.net)?))
 }
 
 /// The starts of a spawner, a line for each: its words.
