@@ -282,13 +282,13 @@ pub room_goes : (core new : Contents) (place : ℕ) (call : CallNo) (change : Ro
     → IsQueuedAt place call core.calls.rows → HasRoomFrom core place old → HasRoomFrom new place draft
 room_goes core new place call change old draft goes is count full takes told has = record {
   enough = λ still more few. (
-    let held = holds_back core.rest.temporary in
-    let got = split_at held place (call.n - 1) core.calls.rows told in
-    let room = has.enough (sym full ∙ still) (suc more) (omega (arith, few, count)) in
-    let same = same_from core new (changed call change core.calls.rows) place (suc more) is in
-    let rest = front_less held held (suc more) (behind_row held got.0 (suc more)) got.1.rest (λ own. own) (behind_least (held || is_some got.0.after) (suc more)) in
-    room_left (bytes_at core.calls.rows (Some (call.n - 1))) _ _ old draft
-    (omega (arith, same, rest, got.1.now (suc more), got.1.gone change goes more, ap row_bytes got.1.here)) room takes);
+      let held = holds_back core.rest.temporary in
+      let got = split_at held place (call.n - 1) core.calls.rows told in
+      let room = has.enough (sym full ∙ still) (suc more) (omega (arith, few, count)) in
+      let same = same_from core new (changed call change core.calls.rows) place (suc more) is in
+      let rest = front_less held held (suc more) (behind_row held got.0 (suc more)) got.1.rest (λ own. own) (behind_least (held || is_some got.0.after) (suc more)) in
+      room_left (bytes_at core.calls.rows (Some (call.n - 1))) _ _ old draft
+      (omega (arith, same, rest, got.1.now (suc more), got.1.gone change goes more, ap row_bytes got.1.here)) room takes);
 }
 
 pub room_never : (core new : Contents) (place : ℕ) (call : CallNo) (change : Row → Row) (draft : Draft) → ((own : Row) → waits_row (change own) ≡ false)
@@ -296,12 +296,12 @@ pub room_never : (core new : Contents) (place : ℕ) (call : CallNo) (change : R
     → IsQueuedAt place call core.calls.rows → HasRoomFrom core place draft → HasRoomFrom new place draft
 room_never core new place call change draft goes is waits told has = record {
   enough = λ still more few. (
-    let held = holds_back core.rest.temporary in
-    let got = split_at held place (call.n - 1) core.calls.rows told in
-    let same = same_from core new (changed call change core.calls.rows) place (suc more) is in
-    let behind : behind_row held got.0 more ≡ suc more = follows_told true got.0 held (follows_at core.calls.rows (Some (call.n - 1))) (ap row_follows got.1.here) (sym waits) more in
-    let rest = ap (λ n. front_bytes held n got.1.rest) behind in
-    room_less _ _ draft (omega (arith, same, rest, got.1.now more, got.1.gone change goes more)) (has.enough still more few));
+      let held = holds_back core.rest.temporary in
+      let got = split_at held place (call.n - 1) core.calls.rows told in
+      let same = same_from core new (changed call change core.calls.rows) place (suc more) is in
+      let behind : behind_row held got.0 more ≡ suc more = follows_told true got.0 held (follows_at core.calls.rows (Some (call.n - 1))) (ap row_follows got.1.here) (sym waits) more in
+      let rest = ap (λ n. front_bytes held n got.1.rest) behind in
+      room_less _ _ draft (omega (arith, same, rest, got.1.now more, got.1.gone change goes more)) (has.enough still more few));
 }
 
 pub room_waits : (core new : Contents) (place : ℕ) (call : CallNo) (draft : Draft)
@@ -309,14 +309,14 @@ pub room_waits : (core new : Contents) (place : ℕ) (call : CallNo) (draft : Dr
     → IsQueuedAt place call core.calls.rows → HasRoomFrom core place draft → HasRoomFrom new (place + 1) draft
 room_waits core new place call draft is waits told has = record {
   enough = λ still more few. (
-    let held = holds_back core.rest.temporary in
-    let got = split_at held place (call.n - 1) core.calls.rows told in
-    let same = same_from core new core.calls.rows (place + 1) (suc more) is in
-    let next : place + 1 ≡ suc place = omega arith in
-    let moved = ap (λ n. bytes_from held n (suc more) core.calls.rows) next in
-    let behind : behind_row held got.0 more ≡ suc more = follows_told true got.0 held (follows_at core.calls.rows (Some (call.n - 1))) (ap row_follows got.1.here) (sym waits) more in
-    let rest = ap (λ n. front_bytes held n got.1.rest) behind in
-    room_less _ _ draft (omega (arith, same, moved, rest, got.1.now more, got.1.next (suc more))) (has.enough still more few));
+      let held = holds_back core.rest.temporary in
+      let got = split_at held place (call.n - 1) core.calls.rows told in
+      let same = same_from core new core.calls.rows (place + 1) (suc more) is in
+      let next : place + 1 ≡ suc place = omega arith in
+      let moved = ap (λ n. bytes_from held n (suc more) core.calls.rows) next in
+      let behind : behind_row held got.0 more ≡ suc more = follows_told true got.0 held (follows_at core.calls.rows (Some (call.n - 1))) (ap row_follows got.1.here) (sym waits) more in
+      let rest = ap (λ n. front_bytes held n got.1.rest) behind in
+      room_less _ _ draft (omega (arith, same, moved, rest, got.1.now more, got.1.next (suc more))) (has.enough still more few));
 }
 
 pub room_behind : (core : Contents) (place : ℕ) (draft : Draft) → draft.is_full ≡ true → HasRoomFrom core place draft
