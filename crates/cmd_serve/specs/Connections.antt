@@ -90,7 +90,7 @@ pub record IsFullEnd (end : ConnEnd) : Type 0 where
 
 -- How they ended, of so many that there should be: all were served; the last one answered as many packets as there were left; no
 -- further one could be taken; or the last one was cut off, as its event couldn't be done: a call of the journal's disk failed, the
--- journal has no room for it, or memory ran out. What stands behind it is what stood before that event.
+-- journal has no room for it, or memory ran out. What stands behind it is what its trace leaves.
 abbrev pub EndsBy : {S V : Type 0} → ℕ → Ending → List (Connection S V) → Type 0
 EndsBy conns Served connections = AllGoOn connections × (length connections ≡ conns)
 EndsBy conns NotTaken connections = AllGoOn connections × (length connections < conns)

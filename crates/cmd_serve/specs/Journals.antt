@@ -160,8 +160,7 @@ pub record SpellsServer {D : Type 0} (drawing : Drawing D) (ring : List RingKey)
   pub same : server ≡ record reached.server { now = server.now }
   pub draw_is : draw ≡ drawing.standing_at seed reached.place
 
--- Lawful records that lead to this server, but for the moment that it has come to since, and the first ones of at most two more,
--- as an event adds them.
+-- Lawful records that lead to this server, but for its moment, and behind them the first ones of at most two more lawful records.
 pub record SpellsUpTo {D : Type 0} (drawing : Drawing D) (ring : List RingKey) (server : Server) (bytes : List ℕ) : Type 0 where
   pub seed : List ℕ
   pub entries : List Record

@@ -175,8 +175,8 @@ pub record OpensNone {D K : Type 0} (drawing : Drawing D) (ring : List RingKey) 
   pub opens : Opens drawing ring name disks moments.before moments.after draws keeping
 
 -- These connections begin with its server, a fresh service, and as many packets to answer as the options say. Where no fault of a
--- disk was counted the file spells at the return what stands behind them; and even else it spells records that lead there, with
--- at most those of one event behind them, which may be torn.
+-- disk was counted the file spells at the return what stands behind them; and even else it spells records that lead there, but for
+-- the moment, and behind them the first ones of at most two more lawful records.
 pub record Keeps {D K : Type 0} (drawing : Drawing D) (ring : List RingKey) (options : ServeOptions) (name : List ℕ) (disks : Part NamesTold K) (moments : Moments) (draws : Draws D) (keeping : Keeping) (connections : List (Connection D Registers)) : Type 0 where
   pub opened : IsOpen keeping
   pub first : Between D Registers

@@ -37,16 +37,17 @@ pub struct Reply {
 /// Why a call of a desk gives nothing.
 #[derive(Clone, Copy, Debug, PartialEq, Eq, Error)]
 pub enum DeskFault {
-    /// An earlier call came to a fault of the disk; nothing is done any more.
+    /// An earlier call came to a fault of the disk; nothing is done any more, and the desk is as it was.
     #[error("the journal is closed")]
     Closed,
-    /// What this call writes would make the journal longer than it may be.
+    /// What this call writes would make the journal longer than it may be: nothing is done, and the desk stands for what it stood
+    /// for.
     #[error("the journal is full with {len} bytes")]
     Full {
         /// Its length in bytes.
         len: u64,
     },
-    /// The disk failed.
+    /// The disk failed; a desk says itself what is known of it then.
     #[error("the disk failed")]
     Disk,
     /// Memory ran out: the desk stands for what it stood for.

@@ -24,8 +24,8 @@ use std::alloc::Global;
 
 /// What takes the packets of connections to a server, and does its events: the server itself, or one that keeps what it
 /// did on a disk. It stands for a server of the definitions, which is in order between events, and for a draw. Each event
-/// makes it stand for what the definitions say of that event. After `Memory` and `Full` it stands for what it stood for; what is
-/// known of it after `Disk` it says itself (`Behind`).
+/// makes it stand for what the definitions say of that event. After `Memory` and `Full` it stands for what it stood for; after
+/// any other fault it says itself what is known of it (`Behind`).
 pub trait Desk {
     ghost use Rattle.std.specs.Prelude.{ℕ, List};
     ghost use Rattle.auth_keys.specs.declared.ring.RingKey.{RingKey};
@@ -81,7 +81,7 @@ pub trait Desk {
             (after_packet (setting_of (max server.now now) Self.D.step ring) (brought_in envelope) server (drawn self.old))) }
         ensures unchanged_on_memory { (server : Rules) → StandsFor self.old server → IfErr result (λ fault. fault ≡ faults.Memory → StandsFor self.new server) }
         ensures unchanged_on_full { (server : Rules) (len : ℕ) → StandsFor self.old server → IfErr result (λ fault. fault ≡ faults.Full len → StandsFor self.new server) }
-        // By what it tells of a packet that a frame may carry.
+        // Only of a packet that a frame may carry.
         ensures behind { (server : Rules) → StandsFor self.old server → length packet.now ≤ frame_bytes_max → IfErr result (λ fault. Behind self.new fault server) }
         ensures faults { IfErr result MayAnswer }
         ensures same_keys { keys self.new ≡ keys self.old }

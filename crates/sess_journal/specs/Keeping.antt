@@ -190,7 +190,7 @@ pub record Adds {K S D : Type 0} (bases : Bases S D) (told : K → Option DiskTo
   pub leaves : IfSome (told file.disk) (λ was. IsSomeAnd (told disk) (λ is. LeavesSome was is (SpellsSome file.seed entries more)))
 
 -- A call of its disk failed in an event of a desk that stood for this server. Its file, where the disk tells, spells lawful records
--- that lead to that server, but for a later moment, and the first ones of those that the event adds, at most two.
+-- that lead to that server, but for its moment, and behind them the first ones of at most two more lawful records.
 pub record IsBroken {K S D : Type 0} (bases : Bases S D) (told : K → Option DiskTold) (desk : Seen K S D) (server : Server) : Type 0 where
   pub disk : K
   pub stands : disk_in desk.book ≡ Some disk
