@@ -1,6 +1,6 @@
 -- From what becomes of pieces to what is owed to a text.
 use Rattle.std.proofs.Common.{◌≡◌, ◌≢◌, ℕ, ◌+◌, ◌<◌, ◌≤◌, List, length, get_or, take, drop, Result, Ok, Err, IfOk}
-use Rattle.statuses.specs.Lines.{input_bytes_max, refusal_line}
+use Rattle.statuses.specs.Lines.{refusal_line}
 use Rattle.statuses.specs.declared.answer.Answer.{Answer}
 use Rattle.statuses.specs.declared.status.Status.TheVariants as status
 use Rattle.transport.specs.declared.form.Form.{Form}
@@ -9,7 +9,6 @@ use Rattle.secret_relay.specs.Standing.{Stands}
 use Rattle.secret_relay.specs.Stories.{Story}
 use Rattle.secret_relay.specs.declared.fault.RelayFault.{RelayFault}
 use Rattle.secret_relay.specs.declared.fault.RelayFault.TheVariants as faults
-use Rattle.cmd_relay.specs.Captures.{Spells}
 use Rattle.cmd_relay.specs.Inner.{Passes}
 use Rattle.cmd_relay.specs.Relays.{IsRefusedFor, cause_of}
 use Rattle.cmd_relay.specs.declared.capture.Piece.{Piece}
@@ -28,7 +27,3 @@ refused-passes form secret pieces i piece relay text fault (Ok a) within is so_f
     one_refused form secret pieces (take i pieces) (drop (i + 1) pieces) piece relay text fault a.status a.text (pieces_at pieces i piece within is)
     so_far (refused known) one told
 refused-passes form secret pieces i piece relay text fault (Err e) within is so_far refused one told known = tt
-
--- ---- what is owed
-
-module _ (form : Form) (secret text : List ℕ) (pieces : List Piece) (short : length text ≤ input_bytes_max) (spelled : Spells text pieces) where

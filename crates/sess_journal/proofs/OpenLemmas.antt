@@ -129,11 +129,6 @@ ended_at {K} told by_seed now seed entries reached first entry old left disk is 
     subst (λ (o : Option K). IfSome old (λ before. IsSomeAnd o (λ other. IsSomeAnd (told other) (λ after. Leaves first before (MayBecome by_seed now first.contents) → Leaves first after (MayBecome by_seed now first.contents)))))
     (sym is) (ended by_seed now seed entries reached first entry old (told disk) ends lawful added)
 
--- ---- what a read gives after a refusal
-
--- what is behind its records was cut
-module _ (seed : List ℕ) (entries : List Record) where
-
 -- ---- a file of lawful records
 
 pub never_refused : {D : Type 0} → (by_seed : List ℕ → Basis D) (seed : List ℕ) (entries : List Record) (reached : Reached) (fault : JournalFault) (old : Option DiskTold)
