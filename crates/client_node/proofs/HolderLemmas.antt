@@ -13,7 +13,7 @@ use Rattle.client_rules.specs.Flush.{flush}
 use Rattle.client_rules.specs.Events.{renewed, takes}
 use Rattle.client_rules.specs.Taking.{take}
 use Rattle.client_rules.specs.Sending.{Setting}
-use Rattle.client_core.specs.Flushed.{Flushes, Leaves, TellsFlush}
+use Rattle.client_core.specs.Flushed.{Flushes}
 use Rattle.client_core.specs.Holding.{Became, IsInState, Opening, Open, Ended, kept_of, phase_of}
 use Rattle.client_core.specs.Keys.{HasKeys as HasKeysOf, Keys, keys_in}
 use Rattle.client_core.specs.Kept.{Contents, Stands}

@@ -1,5 +1,5 @@
 -- From what becomes of pieces to what is owed to a text.
-use Rattle.std.proofs.Common.{◌≡◌, ◌≢◌, ℕ, ◌+◌, ◌<◌, ◌≤◌, List, length, get_or, take, drop, Result, Ok, Err, IfOk}
+use Rattle.std.proofs.Common.{◌≡◌, ◌≢◌, ℕ, ◌+◌, ◌<◌, List, length, get_or, take, drop, Result, Ok, Err, IfOk}
 use Rattle.statuses.specs.Lines.{refusal_line}
 use Rattle.statuses.specs.declared.answer.Answer.{Answer}
 use Rattle.statuses.specs.declared.status.Status.TheVariants as status

@@ -1,5 +1,5 @@
 -- The room that a packet takes is enough for what it brings.
-use Rattle.std.proofs.Common.{◌≡◌, ◌∙◌, ◌≤◌, ℕ, ◌+◌, ◌*◌, Bool, true, false, List, [], ◌∷◌, ap, subst, refl, length, arith}
+use Rattle.std.proofs.Common.{◌≡◌, ◌∙◌, ◌≤◌, ℕ, ◌+◌, ◌*◌, Bool, List, ap, subst, length, arith}
 use Rattle.std.specs.Prelude.{◌/◌, if◌then◌else◌, sum_by, IfOk, Result, Ok, Err}
 use Rattle.std.proofs.lemmas.Bool.{cond_both}
 use Rattle.std.proofs.lemmas.List.Sums.{sum_by-le-sum_by}
