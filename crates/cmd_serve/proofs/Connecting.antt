@@ -6,13 +6,14 @@ use Rattle.mt_edge.specs.declared.net_call.Outcome.TheVariants.{Failed}
 use Rattle.mt_edge.specs.Faults.{Rose}
 use Rattle.server_core.specs.declared.desk.DeskFault.{DeskFault}
 use Rattle.server_core.specs.declared.desk.DeskFault.TheVariants as faults
+use Rattle.server_rules.specs.Server.{Server}
 use Rattle.server_node.specs.Trace.{Rules}
 use Rattle.server_node.specs.declared.conn.ConnEnd.{ConnEnd}
 use Rattle.server_node.specs.declared.conn.ConnEnd.TheVariants as ends
-use Rattle.cmd_serve.specs.Connections.{AreNoted, AreNotedBy, Between, Connection, GoesOn, IsNoted, behind_all}
-use Rattle.cmd_serve.specs.Inner.{CountsDeskBy, CountsTaken, CountsTaking, IsAt, IsBehind, IsDiskEnd, IsServeFault, LeavesCount, ServedAll, ServedSoFar, Side, Took, TookNone, TookOne, ending_by}
+use Rattle.cmd_serve.specs.Connections.{AreNoted, AreNotedBy, Between, Connection, GoesOn, IsFullEnd, IsNoted, behind_all}
+use Rattle.cmd_serve.specs.Inner.{CountsDeskBy, CountsTaken, CountsTaking, IsAt, IsBehind, IsDeskEnd, IsServeFault, LeavesCount, MayBeFull, ServedAll, ServedSoFar, Side, Took, TookNone, TookOne, ending_by}
 use Rattle.cmd_serve.specs.declared.ending.Ending.{Ending}
-use Rattle.cmd_serve.specs.declared.ending.Ending.TheVariants.{Served, Stopped, NotTaken, Journal, Memory}
+use Rattle.cmd_serve.specs.declared.ending.Ending.TheVariants.{Served, Stopped, NotTaken, Journal, Full, Memory}
 use Rattle.cmd_serve.proofs.Taking.{still-left}
 
 -- ---- what is noted
@@ -134,37 +135,68 @@ without-memory rules first count conns calls side later few so_far took = record
   noted = notes-more took.one so_far.connections calls side.calls later.calls so_far.noted took.noted;
 }
 
-broken : {S V : Type 0} (rules : Rules S V) (first : Between S V) (count conns : ℕ) (calls : Option (List NetCall)) (side later : Side S V) (fault : DeskFault)
-    → fault ≡ faults.Disk → count < conns → (so_far : ServedSoFar rules first count calls side) → TookOne rules (behind_all first so_far.connections) side.calls (ends.Journal fault) later
+broken : {S V : Type 0} (rules : Rules S V) (first : Between S V) (count conns : ℕ) (calls : Option (List NetCall)) (side later : Side S V)
+    → count < conns → (so_far : ServedSoFar rules first count calls side) → TookOne rules (behind_all first so_far.connections) side.calls (ends.Journal faults.Disk) later
     → ServedAll rules first conns calls Journal later
-broken rules first count conns calls side later fault is few so_far took = record {
+broken rules first count conns calls side later few so_far took = record {
   connections = took.one ∷ so_far.connections;
   are = (so_far.are, took.is);
-  ended = (so_far.go_on, took.ended ∙ ap (λ (some : DeskFault). ends.Journal some) is, omega (arith, few, so_far.count_is));
+  ended = (so_far.go_on, took.ended, omega (arith, few, so_far.count_is));
   stands = took.stands;
   noted = notes-more took.one so_far.connections calls side.calls later.calls so_far.noted took.noted;
 }
+
+without-room : {S V : Type 0} (rules : Rules S V) (first : Between S V) (count conns : ℕ) (calls : Option (List NetCall)) (side later : Side S V) (len : ℕ)
+    → count < conns → (so_far : ServedSoFar rules first count calls side) → TookOne rules (behind_all first so_far.connections) side.calls (ends.Journal (faults.Full len)) later
+    → ServedAll rules first conns calls Full later
+without-room rules first count conns calls side later len few so_far took =
+    let is_full : IsFullEnd took.one.end = (len, took.ended) in
+    record {
+      connections = took.one ∷ so_far.connections;
+      are = (so_far.are, took.is);
+      ended = (so_far.go_on, is_full, omega (arith, few, so_far.count_is));
+      stands = record {
+        len = len;
+        stands = record {
+          server = took.stands.kept;
+          draw = took.stands.beside.draw;
+          served = took.stands.beside.served;
+          gave = took.stands.beside.gave;
+          count = took.stands.beside.count;
+        };
+        behind = took.stands.behind;
+      };
+      noted = notes-more took.one so_far.connections calls side.calls later.calls so_far.noted took.noted;
+    }
 
 ends-as : {S V : Type 0} (rules : Rules S V) (first : Between S V) (conns : ℕ) (calls : Option (List NetCall)) (later : Side S V) (due ending : Ending) → Some due ≡ Some ending
     → ServedAll rules first conns calls due later → ServedAll rules first conns calls ending later
 ends-as rules first conns calls later due ending same all = let is : due ≡ ending = cc in subst (λ (one : Ending). ServedAll rules first conns calls one later) is all
 
-pub all-served : {S V : Type 0} (rules : Rules S V) (first : Between S V) (count conns : ℕ) (calls : Option (List NetCall)) (side later : Side S V) (end : Option ConnEnd) (ending : Ending)
-    → IsDiskEnd end → count < conns → ending_by end ≡ Some ending → (so_far : ServedSoFar rules first count calls side) → Took rules (behind_all first so_far.connections) side.calls end later
+-- behind a fault that a desk may answer, which stood for a server, it is one of those
+abbrev pub Lets : (DeskFault → Type 0) → (DeskFault → Server → Type 0) → Type 0
+Lets may behind = (fault : DeskFault) (server : Server) → may fault → behind fault server → IsServeFault fault
+
+pub all-served : {S V : Type 0} (rules : Rules S V) (first : Between S V) (count conns : ℕ) (calls : Option (List NetCall)) (side later : Side S V) (may : DeskFault → Type 0) (end : Option ConnEnd) (ending : Ending)
+    → Lets may later.behind → IsDeskEnd may end → count < conns → ending_by end ≡ Some ending → (so_far : ServedSoFar rules first count calls side) → Took rules (behind_all first so_far.connections) side.calls end later
     → ServedAll rules first conns calls ending later
-all-served rules first count conns calls side later None ending disk few same so_far took =
+all-served rules first count conns calls side later may None ending lets desk few same so_far took =
     ends-as rules first conns calls later NotTaken ending same (not-taken rules first count conns calls side later few so_far took)
-all-served rules first count conns calls side later (Some ends.Stopped) ending disk few same so_far took =
+all-served rules first count conns calls side later may (Some ends.Stopped) ending lets desk few same so_far took =
     ends-as rules first conns calls later Stopped ending same (stopped rules first count conns calls side later few so_far took)
-all-served rules first count conns calls side later (Some ends.Memory) ending disk few same so_far took =
+all-served rules first count conns calls side later may (Some ends.Memory) ending lets desk few same so_far took =
     ends-as rules first conns calls later Memory ending same (without-memory rules first count conns calls side later few so_far took)
-all-served rules first count conns calls side later (Some ends.Ended) ending disk few same so_far took = cc
-all-served rules first count conns calls side later (Some ends.LinkFault) ending disk few same so_far took = cc
-all-served rules first count conns calls side later (Some (ends.Frame fault)) ending disk few same so_far took = cc
-all-served rules first count conns calls side later (Some ends.Start) ending disk few same so_far took = cc
-all-served rules first count conns calls side later (Some ends.TurnsSpent) ending disk few same so_far took = cc
-all-served rules first count conns calls side later (Some (ends.Journal fault)) ending disk few same so_far took =
-    ends-as rules first conns calls later Journal ending same (broken rules first count conns calls side later fault disk few so_far took)
+all-served rules first count conns calls side later may (Some ends.Ended) ending lets desk few same so_far took = cc
+all-served rules first count conns calls side later may (Some ends.LinkFault) ending lets desk few same so_far took = cc
+all-served rules first count conns calls side later may (Some (ends.Frame fault)) ending lets desk few same so_far took = cc
+all-served rules first count conns calls side later may (Some ends.Start) ending lets desk few same so_far took = cc
+all-served rules first count conns calls side later may (Some ends.TurnsSpent) ending lets desk few same so_far took = cc
+all-served rules first count conns calls side later may (Some (ends.Journal faults.Disk)) ending lets desk few same so_far took =
+    ends-as rules first conns calls later Journal ending same (broken rules first count conns calls side later few so_far took)
+all-served rules first count conns calls side later may (Some (ends.Journal (faults.Full len))) ending lets desk few same so_far took =
+    ends-as rules first conns calls later Full ending same (without-room rules first count conns calls side later len few so_far took)
+all-served rules first count conns calls side later may (Some (ends.Journal faults.Closed)) ending lets desk few same so_far took = absurd (lets faults.Closed took.one.behind.server desk.0 took.stands.behind)
+all-served rules first count conns calls side later may (Some (ends.Journal faults.Memory)) ending lets desk few same so_far took = absurd (desk.1 refl)
 
 pub each-served : {S V : Type 0} (rules : Rules S V) (first : Between S V) (count conns : ℕ) (calls : Option (List NetCall)) (later : Side S V)
     → count ≡ conns → ServedSoFar rules first count calls later → ServedAll rules first conns calls Served later
@@ -184,41 +216,49 @@ counts-going (Some end) first before after none is counted = counted ∙ is
 
 -- ---- the desk
 
--- a desk that answers want of memory and faults of its disk alone ends a connection by the latter
-disk-fault : (fault : DeskFault) → IsServeFault fault → fault ≢ faults.Memory → fault ≡ faults.Disk
-disk-fault faults.Memory is other = absurd (other refl)
-disk-fault faults.Disk is other = refl
-disk-fault faults.Closed is other = absurd is
-disk-fault (faults.Full len) is other = absurd is
+pub desk-end : (may : DeskFault → Type 0) (end : ConnEnd) → ((fault : DeskFault) → end ≡ ends.Journal fault → may fault × (fault ≢ faults.Memory)) → IsDeskEnd may (Some end)
+desk-end may ends.Ended ended = tt
+desk-end may ends.LinkFault ended = tt
+desk-end may (ends.Frame fault) ended = tt
+desk-end may ends.Start ended = tt
+desk-end may ends.TurnsSpent ended = tt
+desk-end may ends.Stopped ended = tt
+desk-end may (ends.Journal fault) ended = ended fault refl
+desk-end may ends.Memory ended = tt
 
-pub disk-end : (may : DeskFault → Type 0) (end : ConnEnd) → ((fault : DeskFault) → may fault → IsServeFault fault) → ((fault : DeskFault) → end ≡ ends.Journal fault → may fault × (fault ≢ faults.Memory)) → IsDiskEnd (Some end)
-disk-end may ends.Ended lets ended = tt
-disk-end may ends.LinkFault lets ended = tt
-disk-end may (ends.Frame fault) lets ended = tt
-disk-end may ends.Start lets ended = tt
-disk-end may ends.TurnsSpent lets ended = tt
-disk-end may ends.Stopped lets ended = tt
-disk-end may (ends.Journal fault) lets ended = let by = ended fault refl in disk-fault fault (lets fault by.0) by.1
-disk-end may ends.Memory lets ended = tt
+-- the connections end by a full journal only where the desk may answer that
+pub full-answered : (may : DeskFault → Type 0) (end : Option ConnEnd) (ending : Ending) → IsDeskEnd may end → ending_by end ≡ Some ending → ending ≡ Full → MayBeFull may
+full-answered may None ending desk same is = absurd cc
+full-answered may (Some ends.Stopped) ending desk same is = absurd cc
+full-answered may (Some ends.Memory) ending desk same is = absurd cc
+full-answered may (Some ends.Ended) ending desk same is = absurd cc
+full-answered may (Some ends.LinkFault) ending desk same is = absurd cc
+full-answered may (Some (ends.Frame fault)) ending desk same is = absurd cc
+full-answered may (Some ends.Start) ending desk same is = absurd cc
+full-answered may (Some ends.TurnsSpent) ending desk same is = absurd cc
+full-answered may (Some (ends.Journal (faults.Full len))) ending desk same is = (len, desk.0)
+full-answered may (Some (ends.Journal faults.Disk)) ending desk same is = absurd cc
+full-answered may (Some (ends.Journal faults.Closed)) ending desk same is = absurd cc
+full-answered may (Some (ends.Journal faults.Memory)) ending desk same is = absurd cc
 
 desk-as : (due ending : Ending) (first after : ℕ) → Some due ≡ Some ending → CountsDeskBy due first after → CountsDeskBy ending first after
 desk-as due ending first after same counted = let is : due ≡ ending = cc in subst (λ (one : Ending). CountsDeskBy one first after) is counted
 
-rose-disk : (fault : DeskFault) (first before after : ℕ) → fault ≡ faults.Disk → before ≡ first → CountsTaken (Some (ends.Journal fault)) before after → Rose first after
-rose-disk fault first before after is same counted =
-    let rose : Rose before after = subst (λ (some : DeskFault). CountsTaken (Some (ends.Journal some)) before after) is counted in
-    subst (λ (count : ℕ). Rose count after) same rose
-
-pub counts-desk : (end : Option ConnEnd) (ending : Ending) (first before after : ℕ) → IsDiskEnd end → ending_by end ≡ Some ending → before ≡ first → CountsTaken end before after → CountsDeskBy ending first after
-counts-desk None ending first before after disk same is counted = desk-as NotTaken ending first after same (counted ∙ is)
-counts-desk (Some ends.Stopped) ending first before after disk same is counted = desk-as Stopped ending first after same (counted ∙ is)
-counts-desk (Some ends.Memory) ending first before after disk same is counted = desk-as Memory ending first after same (counted ∙ is)
-counts-desk (Some ends.Ended) ending first before after disk same is counted = cc
-counts-desk (Some ends.LinkFault) ending first before after disk same is counted = cc
-counts-desk (Some (ends.Frame fault)) ending first before after disk same is counted = cc
-counts-desk (Some ends.Start) ending first before after disk same is counted = cc
-counts-desk (Some ends.TurnsSpent) ending first before after disk same is counted = cc
-counts-desk (Some (ends.Journal fault)) ending first before after disk same is counted = desk-as Journal ending first after same (rose-disk fault first before after disk is counted)
+pub counts-desk : {S V : Type 0} (rules : Rules S V) (between : Between S V) (calls : Option (List NetCall)) (later : Side S V) (may : DeskFault → Type 0) (end : Option ConnEnd) (ending : Ending) (first before after : ℕ)
+    → Lets may later.behind → IsDeskEnd may end → ending_by end ≡ Some ending → before ≡ first → Took rules between calls end later → CountsTaken end before after → CountsDeskBy ending first after
+counts-desk rules between calls later may None ending first before after lets desk same is took counted = desk-as NotTaken ending first after same (counted ∙ is)
+counts-desk rules between calls later may (Some ends.Stopped) ending first before after lets desk same is took counted = desk-as Stopped ending first after same (counted ∙ is)
+counts-desk rules between calls later may (Some ends.Memory) ending first before after lets desk same is took counted = desk-as Memory ending first after same (counted ∙ is)
+counts-desk rules between calls later may (Some ends.Ended) ending first before after lets desk same is took counted = cc
+counts-desk rules between calls later may (Some ends.LinkFault) ending first before after lets desk same is took counted = cc
+counts-desk rules between calls later may (Some (ends.Frame fault)) ending first before after lets desk same is took counted = cc
+counts-desk rules between calls later may (Some ends.Start) ending first before after lets desk same is took counted = cc
+counts-desk rules between calls later may (Some ends.TurnsSpent) ending first before after lets desk same is took counted = cc
+counts-desk rules between calls later may (Some (ends.Journal faults.Disk)) ending first before after lets desk same is took counted =
+    desk-as Journal ending first after same (subst (λ (count : ℕ). Rose count after) is counted)
+counts-desk rules between calls later may (Some (ends.Journal (faults.Full len))) ending first before after lets desk same is took counted = desk-as Full ending first after same (counted ∙ is)
+counts-desk rules between calls later may (Some (ends.Journal faults.Closed)) ending first before after lets desk same is took counted = absurd (lets faults.Closed took.one.behind.server desk.0 took.stands.behind)
+counts-desk rules between calls later may (Some (ends.Journal faults.Memory)) ending first before after lets desk same is took counted = absurd (desk.1 refl)
 
 pub desk-going : (end : Option ConnEnd) (first before after : ℕ) → ending_by end ≡ None → before ≡ first → CountsTaken end before after → after ≡ first
 desk-going None first before after none is counted = cc

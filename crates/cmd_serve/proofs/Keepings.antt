@@ -16,7 +16,7 @@ use Rattle.statuses.specs.Outside.{HadFault, Outside, Part}
 use Rattle.statuses.specs.declared.status.Status.{Status}
 use Rattle.cmd_serve.specs.Connections.{Between, behind_all}
 use Rattle.cmd_serve.specs.Inner.{CountsFile, CountsFileBy, EndsBecause, FoundIn, GoesFrom, IsBecause, IsBegun, IsLeft, OpensFile, RunsWith, ServesKept, ShutsFile, UnlessBroken, first_kept, served_in}
-use Rattle.cmd_serve.specs.Journals.{AsksFor, Drawing, FoundBy, Holds, HoldsSome, IsFilled, IsOpen, IsShut, Keeping, LeavesBy, SpellsServer, StartsBy, Unopened, Faulty, Foreign, Starved, New, Old}
+use Rattle.cmd_serve.specs.Journals.{AsksFor, Drawing, FoundBy, Holds, HoldsSome, IsFilled, IsOpen, IsShut, Keeping, LeavesBy, SpellsServer, SpellsUpTo, StartsBy, Unopened, Faulty, Foreign, Starved, New, Old}
 use Rattle.cmd_serve.specs.Runs.{CountsBy, CountsDisks, CountsKept, Course, Draws, Unread, Refused, Unbegun, Shut, Deaf, Mute, Serves, Ends, EndsShut, FailsNever, FailsOnce, GoesBy, IfTold, JournalsBy, Opens, Registers}
 use Rattle.cmd_serve.specs.declared.ending.Ending.{Ending}
 use Rattle.cmd_serve.specs.declared.ending.Ending.TheVariants.{Served, Stopped, NotTaken, Journal, Full, Memory}
@@ -278,22 +278,23 @@ keeps-by : {D K : Type 0} (drawing : Drawing D) (options : ServeOptions) (name :
     → IsBegun ring course → IsOpen keeping → Opens drawing ring name disks given given_then draws keeping → StartsBy drawing ring keeping draws.before server draw
     → GoesFrom drawing.step options (first_kept options given_then server draw) given_last course
     → ((HadFault disks → ⊥) → IfTold disks (λ before after. LeavesBy drawing ring name keeping (behind_all (first_kept options given_then server draw) (served_in course)).server (behind_all (first_kept options given_then server draw) (served_in course)).draw after))
+    → IfTold disks (λ before after. HoldsSome name (SpellsUpTo drawing ring (behind_all (first_kept options given_then server draw) (served_in course)).server) after)
     → JournalsBy drawing options name disks (record { before = given; after = given_last }) draws keeping course
-keeps-by drawing options name disks given given_then given_last draws ring keeping server draw Unread own opened opens starts goes leaves = absurd own
-keeps-by drawing options name disks given given_then given_last draws ring keeping server draw (Refused line) own opened opens starts goes leaves = absurd own
-keeps-by drawing options name disks given given_then given_last draws ring keeping server draw Unbegun own opened opens starts goes leaves = absurd own
-keeps-by drawing options name disks given given_then given_last draws ring keeping server draw (Shut other) own opened opens starts goes leaves = absurd own
-keeps-by drawing options name disks given given_then given_last draws ring keeping server draw (Deaf other) own opened opens starts goes leaves =
+keeps-by drawing options name disks given given_then given_last draws ring keeping server draw Unread own opened opens starts goes leaves up_to = absurd own
+keeps-by drawing options name disks given given_then given_last draws ring keeping server draw (Refused line) own opened opens starts goes leaves up_to = absurd own
+keeps-by drawing options name disks given given_then given_last draws ring keeping server draw Unbegun own opened opens starts goes leaves up_to = absurd own
+keeps-by drawing options name disks given given_then given_last draws ring keeping server draw (Shut other) own opened opens starts goes leaves up_to = absurd own
+keeps-by drawing options name disks given given_then given_last draws ring keeping server draw (Deaf other) own opened opens starts goes leaves up_to =
     subst (λ (some : List RingKey). JournalsBy drawing options name disks (record { before = given; after = given_last }) draws keeping (Deaf some)) (sym own)
-    (record { opened = opened; first = first_kept options given_then server draw; opens = opens; starts = starts; service = refl; left = refl; leaves = leaves }, goes)
-keeps-by drawing options name disks given given_then given_last draws ring keeping server draw (Mute other) own opened opens starts goes leaves =
+    (record { opened = opened; first = first_kept options given_then server draw; opens = opens; starts = starts; service = refl; left = refl; leaves = leaves; up_to = up_to }, goes)
+keeps-by drawing options name disks given given_then given_last draws ring keeping server draw (Mute other) own opened opens starts goes leaves up_to =
     subst (λ (some : List RingKey). JournalsBy drawing options name disks (record { before = given; after = given_last }) draws keeping (Mute some)) (sym own)
-    (record { opened = opened; first = first_kept options given_then server draw; opens = opens; starts = starts; service = refl; left = refl; leaves = leaves }, goes)
-keeps-by {D} drawing options name disks given given_then given_last draws ring keeping server draw (Serves other connections ending) own opened opens starts goes leaves =
+    (record { opened = opened; first = first_kept options given_then server draw; opens = opens; starts = starts; service = refl; left = refl; leaves = leaves; up_to = up_to }, goes)
+keeps-by {D} drawing options name disks given given_then given_last draws ring keeping server draw (Serves other connections ending) own opened opens starts goes leaves up_to =
     let goes_own : GoesFrom drawing.step options (first_kept options given_then server draw) given_last (Serves ring connections ending) =
     subst (λ (some : List RingKey). GoesFrom drawing.step options (first_kept options given_then server draw) given_last (Serves some connections ending)) own goes in
     subst (λ (some : List RingKey). JournalsBy drawing options name disks (record { before = given; after = given_last }) draws keeping (Serves some connections ending)) (sym own)
-    (record { opened = opened; first = first_kept options given_then server draw; opens = opens; starts = starts; service = refl; left = refl; leaves = leaves }, goes_own)
+    (record { opened = opened; first = first_kept options given_then server draw; opens = opens; starts = starts; service = refl; left = refl; leaves = leaves; up_to = up_to }, goes_own)
 
 -- ---- a file that was opened, and comes back
 
@@ -371,7 +372,12 @@ module _ {N O D K E : Type 0} (drawing : Drawing D) (options : ServeOptions) (ri
             let whole = kept-whole disks (faults disk) (faults back.0) (disks.faults between) none_yet never done serves.course _ counted calm serves.leaves in
             let own_spells : IfSome (told back.0) (λ file. SpellsServer drawing ring server last file.contents) =
             subst (λ (some : List RingKey). IfSome (told back.0) (λ file. SpellsServer drawing some server last file.contents)) opened.ring_is whole in
-            open-leaves drawing ring name opened.keeping server last found left before after opened.opened (of-told (told back.0) left (λ file. SpellsServer drawing ring server last file.contents) also own_spells) passed)));
+            open-leaves drawing ring name opened.keeping server last found left before after opened.opened (of-told (told back.0) left (λ file. SpellsServer drawing ring server last file.contents) also own_spells) passed))
+            (passes-told name (told disk) (told back.0) (place disk) (place back.0) (disks.told disks.before) (disks.told between) (disks.told disks.after) (λ before after. HoldsSome name (SpellsUpTo drawing ring server) after) same opens closes
+            (λ found left before after is also passed.
+            let own_up_to : IfSome (told back.0) (λ file. SpellsUpTo drawing ring server file.contents) =
+            subst (λ (some : List RingKey). IfSome (told back.0) (λ file. SpellsUpTo drawing some server file.contents)) opened.ring_is serves.up_to in
+            record { bytes = left.contents; holds = passed.left_is; says = of-told (told back.0) left (λ file. SpellsUpTo drawing ring server file.contents) also own_up_to })));
         counts = kept-counts disks (faults disk) (faults back.0) (disks.faults between) none_yet never done opened.keeping serves.course opened.opened counted;
         tells = tells;
         ends = ends-any options out ring opened.keeping serves.course back.1 own serves.ends;

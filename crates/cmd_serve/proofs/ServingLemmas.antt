@@ -1,22 +1,24 @@
 -- What is served with a desk, and the lines about it, as a run.
-use Rattle.std.proofs.Common.{◌≡◌, ◌⊎◌, inl, inr, ℕ, Bool, true, false, List, [], ◌∷◌, ◌++◌, Option, None, IfSome, refl, sym, subst, ◌∙◌, arith}
+use Rattle.std.proofs.Common.{◌≡◌, ◌⊎◌, inl, inr, ℕ, List, [], ◌∷◌, ◌++◌, Option, None, IfSome, refl, sym, subst, ◌∙◌, arith}
 use Rattle.auth_keys.specs.declared.ring.RingKey.{RingKey}
 use Rattle.commands.specs.declared.command.ServeOptions.{ServeOptions}
 use Rattle.disks.specs.Named.{NamesTold}
 use Rattle.mt_edge.specs.Faults.{Rose}
 use Rattle.mt_edge.specs.declared.net_call.NetCall.{NetCall}
 use Rattle.regs_service.specs.Registers as registers
-use Rattle.server_node.specs.Trace.{Rules, rules_of}
+use Rattle.server_core.specs.declared.desk.DeskFault.{DeskFault}
+use Rattle.server_core.specs.declared.desk.DeskFault.TheVariants as faults
+use Rattle.server_node.specs.Trace.{rules_of}
 use Rattle.server_rules.specs.Server.{Server}
 use Rattle.statuses.specs.Outside.{Outside, Part, Tells, Writes}
 use Rattle.statuses.specs.declared.status.Status.{Status}
 use Rattle.statuses.specs.declared.status.Status.TheVariants as status
-use Rattle.cmd_serve.specs.Connections.{Between, Connection, EndsBy}
-use Rattle.cmd_serve.specs.Inner.{CountsDeskBy, EndsBehind, Hears, IsBegun, IsBehindAll, IsDeaf, IsMute, IsWith, LeavesDesk, RunsAlone, RunsWith, ServesOn, Side, ending_with}
+use Rattle.cmd_serve.specs.Connections.{Between, Connection}
+use Rattle.cmd_serve.specs.Inner.{CountsDeskBy, EndsBehind, Hears, IsBegun, IsBehindAll, IsDeaf, IsMute, IsWith, LeavesDesk, MayBeFull, RunsAlone, RunsWith, ServesOn, Side}
 use Rattle.cmd_serve.specs.Journals.{Drawing, HoldsSome, IsFilled, Unopened}
 use Rattle.cmd_serve.specs.Lines.{journal_fault, last_line, listening, not_listening}
 use Rattle.cmd_serve.specs.Packets.{outside_of}
-use Rattle.cmd_serve.specs.Runs.{Course, Draws, Unread, Refused, Unbegun, Shut, Deaf, Mute, Serves, EndsServing, GoesBy, IfTold, IsBroken, IsServed, Moments, Registers, WritesFirst, first_of}
+use Rattle.cmd_serve.specs.Runs.{Course, Draws, Unread, Refused, Unbegun, Shut, Deaf, Mute, Serves, EndsServing, GoesBy, IfTold, IsBroken, Moments, Registers, WritesFirst, first_of}
 use Rattle.cmd_serve.specs.declared.ending.Ending.{Ending}
 use Rattle.cmd_serve.specs.declared.ending.Ending.TheVariants.{Served, Stopped, NotTaken, Journal, Full, Memory}
 use Rattle.cmd_serve.proofs.Texts.{first-line, first-line-alone, tells-lines}
@@ -28,24 +30,24 @@ pub gave-behind : {S V : Type 0} (ending : Ending) (side : Side S V) (between : 
 gave-behind Served side between stands = stands.gave
 gave-behind Stopped side between stands = stands.gave
 gave-behind NotTaken side between stands = stands.gave
-gave-behind Journal side between stands = stands.gave
-gave-behind Full side between stands = stands.gave
+gave-behind Journal side between stands = stands.beside.gave
+gave-behind Full side between stands = stands.stands.gave
 gave-behind Memory side between stands = stands.gave
 
 pub drawn-behind : {S V : Type 0} (ending : Ending) (side : Side S V) (between : Between S V) → IsBehindAll ending side between → side.drawn ≡ between.draw
 drawn-behind Served side between stands = stands.draw
 drawn-behind Stopped side between stands = stands.draw
 drawn-behind NotTaken side between stands = stands.draw
-drawn-behind Journal side between stands = stands.draw
-drawn-behind Full side between stands = stands.draw
+drawn-behind Journal side between stands = stands.beside.draw
+drawn-behind Full side between stands = stands.stands.draw
 drawn-behind Memory side between stands = stands.draw
 
-pub leaves-behind : {S V : Type 0} (ending : Ending) (side : Side S V) (between : Between S V) → IsBehindAll ending side between → LeavesDesk ending side.desk between.server
+pub leaves-behind : {S V : Type 0} (ending : Ending) (side : Side S V) (between : Between S V) → IsBehindAll ending side between → LeavesDesk ending side.desk side.behind between.server
 leaves-behind Served side between stands = stands.server
 leaves-behind Stopped side between stands = stands.server
 leaves-behind NotTaken side between stands = stands.server
-leaves-behind Journal side between stands = tt
-leaves-behind Full side between stands = stands.server
+leaves-behind Journal side between stands = stands.behind
+leaves-behind Full side between stands = record { len = stands.len; stands = stands.stands.server; full = stands.behind }
 leaves-behind Memory side between stands = stands.server
 
 pub line-behind : {O : Type 0} (out : Outside O) (ending : Ending) (one : Status) (text line : List ℕ) → text ≡ line → EndsBehind text out ending one → EndsBehind line out ending one
@@ -77,50 +79,23 @@ module _ {O : Type 0} (options : ServeOptions) (told : O → Option (List ℕ)) 
       subst (λ (some : O). Writes (record { told = told; faults = faults; before = first; after = some }) (listening options.port)) (sym ends.1) written in
       (first-line-alone (told first) (told last) (listening options.port) (listening options.port) refl whole.bytes, (ends.0, whole))
 
--- ---- where the journal is full
-
-ends-with : {D : Type 0} (conns : ℕ) (connections : List (Connection D Registers)) → EndsBy conns Memory connections → EndsBy conns Full connections
-ends-with conns [] ended = ended
-ends-with conns (last ∷ earlier) ended = ended
-
--- what is said of an ending holds of the one that it is told as
-pub with-full : (P : Ending → Type 0) (full : Bool) (ending : Ending) → (P Memory → P Full) → P ending → P (ending_with full ending)
-with-full P true Memory so is = so is
-with-full P false Memory so is = is
-with-full P true Served so is = is
-with-full P false Served so is = is
-with-full P true Stopped so is = is
-with-full P false Stopped so is = is
-with-full P true NotTaken so is = is
-with-full P false NotTaken so is = is
-with-full P true Journal so is = is
-with-full P false Journal so is = is
-with-full P true Full so is = is
-with-full P false Full so is = is
-
-pub served-with : {D : Type 0} (rules : Rules D Registers) (first : Between D Registers) (conns : ℕ) (given : Option (List ℕ)) (drawn : D) (connections : List (Connection D Registers)) (full : Bool) (ending : Ending)
-    → IsServed rules first conns given drawn connections ending → IsServed rules first conns given drawn connections (ending_with full ending)
-served-with rules first conns given drawn connections full ending are = record {
-  are = are.are;
-  ended = with-full (λ (one : Ending). EndsBy conns one connections) full ending (ends-with conns connections) are.ended;
-  moments = are.moments;
-  words = are.words;
-}
-
 -- ---- without a journal
 
 never-rose : Rose 0 0 → ⊥
 never-rose (inl more) = absurd (omega (arith, more))
 never-rose (inr most) = absurd (omega (arith, most))
 
--- a server that keeps nothing has no disk
-whole-of : {D : Type 0} (ring : List RingKey) (connections : List (Connection D Registers)) (ending : Ending) → CountsDeskBy ending 0 0 → IsBroken (Serves ring connections ending) → ⊥
-whole-of ring connections Served counted broken = broken
-whole-of ring connections Stopped counted broken = broken
-whole-of ring connections NotTaken counted broken = broken
-whole-of ring connections Journal counted broken = never-rose counted
-whole-of ring connections Full counted broken = absurd counted
-whole-of ring connections Memory counted broken = broken
+pub never-full : MayBeFull (λ fault. fault ≡ faults.Memory) → ⊥
+never-full may = let same : faults.Full may.0 ≡ faults.Memory = may.1 in absurd (cc)
+
+-- a server that keeps nothing has no disk, and needs no room
+whole-of : {D : Type 0} (ring : List RingKey) (connections : List (Connection D Registers)) (ending : Ending) → CountsDeskBy ending 0 0 → (ending ≡ Full → ⊥) → IsBroken (Serves ring connections ending) → ⊥
+whole-of ring connections Served counted never broken = broken
+whole-of ring connections Stopped counted never broken = broken
+whole-of ring connections NotTaken counted never broken = broken
+whole-of ring connections Journal counted never broken = never-rose counted
+whole-of ring connections Full counted never broken = absurd (never refl)
+whole-of ring connections Memory counted never broken = broken
 
 pub alone-not : {N O D : Type 0} (step : D → ℕ × D) (options : ServeOptions) (ring : List RingKey) (net : Part (List NetCall) N) (out : Outside O) (given : Option (List ℕ)) (draw : D) (one : Status)
     → IsDeaf options.port net out one ⊎ IsMute options.port net out one
@@ -143,19 +118,19 @@ alone-not step options ring net out given draw one (inr mute) = record {
 }
 
 pub alone-serves : {N O D : Type 0} (step : D → ℕ × D) (options : ServeOptions) (ring : List RingKey) (told : N → Option (List NetCall)) (counts : N → ℕ) (net between net_then : N)
-    (writes : O → Option (List ℕ)) (counts_out : O → ℕ) (out amid out_then : O) (given given_then : Option (List ℕ)) (draw draw_then drawn : D) (desk : Server → Type 0) (ending : Ending) (text : List ℕ) (one : Status)
+    (writes : O → Option (List ℕ)) (counts_out : O → ℕ) (out amid out_then : O) (given given_then : Option (List ℕ)) (draw draw_then drawn : D) (desk : Server → Type 0) (behind : DeskFault → Server → Type 0) (ending : Ending) (text : List ℕ) (one : Status)
     → Hears options.port (record { told = told; faults = counts; before = net; after = between }) (record { told = writes; faults = counts_out; before = out; after = amid })
     → ServesOn (rules_of step registers.step (outside_of ring)) options (first_of options (record { before = given; after = given_then }) draw)
-    (record { told = told; faults = counts; before = between; after = net_then }) given_then desk drawn ending
-    → draw_then ≡ drawn → CountsDeskBy ending 0 0 → text ≡ last_line options.conns Served → EndsBehind text (record { told = writes; faults = counts_out; before = amid; after = out_then }) ending one
+    (record { told = told; faults = counts; before = between; after = net_then }) given_then desk behind drawn ending
+    → draw_then ≡ drawn → CountsDeskBy ending 0 0 → (ending ≡ Full → ⊥) → text ≡ last_line options.conns Served → EndsBehind text (record { told = writes; faults = counts_out; before = amid; after = out_then }) ending one
     → RunsAlone step options ring (record { told = told; faults = counts; before = net; after = net_then }) (record { told = writes; faults = counts_out; before = out; after = out_then })
     (record { before = given; after = given_then }) (record { before = draw; after = draw_then }) one
-alone-serves step options ring told counts net between net_then writes counts_out out amid out_then given given_then draw draw_then drawn desk ending text one hears serves same counted is ends = record {
+alone-serves step options ring told counts net between net_then writes counts_out out amid out_then given given_then draw draw_then drawn desk behind ending text one hears serves same counted never is ends = record {
   course = Serves ring serves.connections ending;
   own = refl;
   calls = calls-serves options.port told counts net between net_then ring serves.connections ending hears.called hears.counted hears.tells serves.noted serves.counted serves.tells;
   serves = record { are = serves.are.are; ended = serves.are.ended; moments = serves.are.moments; words = same ∙ serves.are.words };
-  whole = whole-of ring serves.connections ending counted;
+  whole = whole-of ring serves.connections ending counted never;
   ends = ends-all options writes counts_out out amid out_then one hears.written ending
       (line-behind (record { told = writes; faults = counts_out; before = amid; after = out_then }) ending one text (last_line options.conns Served) is ends);
 }

@@ -5,10 +5,12 @@ use Rattle.mt_edge.specs.Nets.{closed_at}
 use Rattle.mt_edge.specs.declared.net_call.NetCall.{NetCall}
 use Rattle.mt_edge.specs.declared.net_call.NetCall.TheVariants.{Accept}
 use Rattle.mt_edge.specs.declared.net_call.Outcome.TheVariants.{Open, Done}
+use Rattle.server_core.specs.declared.desk.DeskFault.{DeskFault}
+use Rattle.server_core.specs.declared.desk.DeskFault.TheVariants as faults
 use Rattle.server_rules.specs.Server.{Server}
 use Rattle.server_node.specs.Connection.{ServerTrace, place_after}
 use Rattle.server_node.specs.Record.{Answered, ReadTo, Stops}
-use Rattle.server_node.specs.Served.{Begins, LeavesBy}
+use Rattle.server_node.specs.Served.{Begins, IfFull, LeavesBy}
 use Rattle.server_node.specs.Trace.{Rules, Talk}
 use Rattle.server_node.specs.Writes.{CountsBy}
 use Rattle.server_node.specs.declared.conn.ConnEnd.{ConnEnd}
@@ -19,28 +21,46 @@ use Rattle.cmd_serve.specs.Inner.{IsBehind, Side, StandsAt, TookOne}
 -- ---- its trace
 
 -- what is said of the desk afterwards
-leaves-own : {S V : Type 0} (end : ConnEnd) (desk : Server → Type 0) (drawn : S) (service : V) (talk : Talk S V) → LeavesBy end desk drawn service talk → LeavesBy end (λ server. server ≡ talk.server) drawn service talk
-leaves-own ends.Ended desk drawn service talk left = record { server = refl; draw = left.draw; served = left.served }
-leaves-own ends.LinkFault desk drawn service talk left = record { server = refl; draw = left.draw; served = left.served }
-leaves-own (ends.Frame fault) desk drawn service talk left = record { server = refl; draw = left.draw; served = left.served }
-leaves-own ends.Start desk drawn service talk left = record { server = refl; draw = left.draw; served = left.served }
-leaves-own ends.TurnsSpent desk drawn service talk left = record { server = refl; draw = left.draw; served = left.served }
-leaves-own ends.Stopped desk drawn service talk left = record { server = refl; draw = left.draw; served = left.served }
-leaves-own (ends.Journal fault) desk drawn service talk left = tt
-leaves-own ends.Memory desk drawn service talk left = (refl, left.1)
+full-own : (fault : DeskFault) (P Q R : Type 0) → R → IfFull fault (P × Q) → IfFull fault (R × Q)
+full-own (faults.Full len) P Q R is left = (is, left.1)
+full-own faults.Memory P Q R is left = tt
+full-own faults.Closed P Q R is left = tt
+full-own faults.Disk P Q R is left = tt
+
+full-first : (fault : DeskFault) (P Q : Type 0) → IfFull fault (P × Q) → IfFull fault P
+full-first (faults.Full len) P Q left = left.0
+full-first faults.Memory P Q left = tt
+full-first faults.Closed P Q left = tt
+full-first faults.Disk P Q left = tt
+
+leaves-own : {S V : Type 0} (end : ConnEnd) (desk : Server → Type 0) (behind : DeskFault → Server → Type 0) (drawn : S) (service : V) (talk : Talk S V) → LeavesBy end desk behind drawn service talk
+    → LeavesBy end (λ server. server ≡ talk.server) (λ fault server. server ≡ talk.server) drawn service talk
+leaves-own ends.Ended desk behind drawn service talk left = record { server = refl; draw = left.draw; served = left.served }
+leaves-own ends.LinkFault desk behind drawn service talk left = record { server = refl; draw = left.draw; served = left.served }
+leaves-own (ends.Frame fault) desk behind drawn service talk left = record { server = refl; draw = left.draw; served = left.served }
+leaves-own ends.Start desk behind drawn service talk left = record { server = refl; draw = left.draw; served = left.served }
+leaves-own ends.TurnsSpent desk behind drawn service talk left = record { server = refl; draw = left.draw; served = left.served }
+leaves-own ends.Stopped desk behind drawn service talk left = record { server = refl; draw = left.draw; served = left.served }
+leaves-own (ends.Journal fault) desk behind drawn service talk left =
+    (refl, full-own fault (desk talk.server) (service ≡ talk.service) (talk.server ≡ talk.server) refl left.1)
+leaves-own ends.Memory desk behind drawn service talk left = (refl, left.1)
 
 -- what stands behind it
 abbrev behind_of : {S V : Type 0} → Side S V → Server → Between S V
 behind_of later server = record { server = server; draw = later.drawn; service = later.service; given = later.given; left = later.left }
 
-is-behind : {S V : Type 0} (end : ConnEnd) (later : Side S V) (talk : Talk S V) → LeavesBy end later.desk later.drawn later.service talk → IsBehind end later (behind_of later talk.server)
+is-behind : {S V : Type 0} (end : ConnEnd) (later : Side S V) (talk : Talk S V) → LeavesBy end later.desk later.behind later.drawn later.service talk → IsBehind end later (behind_of later talk.server)
 is-behind ends.Ended later talk left = record { server = left.server; draw = refl; served = refl; gave = refl; count = refl }
 is-behind ends.LinkFault later talk left = record { server = left.server; draw = refl; served = refl; gave = refl; count = refl }
 is-behind (ends.Frame fault) later talk left = record { server = left.server; draw = refl; served = refl; gave = refl; count = refl }
 is-behind ends.Start later talk left = record { server = left.server; draw = refl; served = refl; gave = refl; count = refl }
 is-behind ends.TurnsSpent later talk left = record { server = left.server; draw = refl; served = refl; gave = refl; count = refl }
 is-behind ends.Stopped later talk left = record { server = left.server; draw = refl; served = refl; gave = refl; count = refl }
-is-behind (ends.Journal fault) later talk left = record { draw = refl; served = refl; gave = refl; count = refl }
+is-behind (ends.Journal fault) later talk left = record {
+  beside = record { draw = refl; served = refl; gave = refl; count = refl };
+  behind = left.0;
+  kept = full-first fault (later.desk talk.server) (later.service ≡ talk.service) left.1;
+}
 is-behind ends.Memory later talk left = record { server = left.0; draw = refl; served = refl; gave = refl; count = refl }
 
 -- ---- what its net notes
@@ -91,15 +111,15 @@ module _ {S V : Type 0} (rules : Rules S V) (before : Between S V) (desk : Serve
   begins-there : Begins desk drawn service (talk_at before)
   begins-there = record { server = stands.server; draw = stands.draw; served = stands.served; heard = refl; sent = refl }
 
-  trace-there : ((talk : Talk S V) → Begins desk drawn service talk → ServerTrace rules talk (record { told = taken; given = given; left = left }) end later.desk later.drawn later.service (record { told = given_back; given = later.given; left = later.left }))
-      → ServerTrace rules (talk_at before) (sight_at taken before) end later.desk later.drawn later.service (record { told = given_back; given = later.given; left = later.left })
+  trace-there : ((talk : Talk S V) → Begins desk drawn service talk → ServerTrace rules talk (record { told = taken; given = given; left = left }) end later.desk later.behind later.drawn later.service (record { told = given_back; given = later.given; left = later.left }))
+      → ServerTrace rules (talk_at before) (sight_at taken before) end later.desk later.behind later.drawn later.service (record { told = given_back; given = later.given; left = later.left })
   trace-there trace =
-      subst (λ (count : Option ℕ). ServerTrace rules (talk_at before) (record { told = taken; given = before.given; left = count }) end later.desk later.drawn later.service (record { told = given_back; given = later.given; left = later.left })) stands.count
-      (subst (λ (gave : Option (List ℕ)). ServerTrace rules (talk_at before) (record { told = taken; given = gave; left = left }) end later.desk later.drawn later.service (record { told = given_back; given = later.given; left = later.left })) stands.gave
+      subst (λ (count : Option ℕ). ServerTrace rules (talk_at before) (record { told = taken; given = before.given; left = count }) end later.desk later.behind later.drawn later.service (record { told = given_back; given = later.given; left = later.left })) stands.count
+      (subst (λ (gave : Option (List ℕ)). ServerTrace rules (talk_at before) (record { told = taken; given = gave; left = left }) end later.desk later.behind later.drawn later.service (record { told = given_back; given = later.given; left = later.left })) stands.gave
       (trace (talk_at before) begins-there))
 
   pub took-one : (place faults : ℕ) (first between : Option (List NetCall))
-      → ((talk : Talk S V) → Begins desk drawn service talk → ServerTrace rules talk (record { told = taken; given = given; left = left }) end later.desk later.drawn later.service (record { told = given_back; given = later.given; left = later.left }))
+      → ((talk : Talk S V) → Begins desk drawn service talk → ServerTrace rules talk (record { told = taken; given = given; left = left }) end later.desk later.behind later.drawn later.service (record { told = given_back; given = later.given; left = later.left }))
       → IfSome given_back (λ last. IsSomeAnd taken (λ begun. ReadTo end begun last))
       → CountsBy (Some end) 0 faults
       → Answered (Some end) left later.left
@@ -124,7 +144,7 @@ module _ {S V : Type 0} (rules : Rules S V) (before : Between S V) (desk : Serve
             closed = whole.closed;
             behind = whole.behind;
             ended = whole.ended;
-            leaves = leaves-own end later.desk later.drawn later.service talk whole.leaves;
+            leaves = leaves-own end later.desk later.behind later.drawn later.service talk whole.leaves;
             owes = whole.owes;
             shows = whole.shows;
             breaks = whole.breaks;

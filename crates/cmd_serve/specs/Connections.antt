@@ -48,7 +48,7 @@ pub record Connection (S V : Type 0) : Type 0 where
 pub record IsConnection {S V : Type 0} (rules : Rules S V) (before : Between S V) (one : Connection S V) : Type 0 where
   -- what it did is the trace of a server, from what stands before it to what stands behind it
   pub trace : ServerTrace rules (talk_at before) (sight_at one.taken before) one.end
-      (λ server. server ≡ one.behind.server) one.behind.draw one.behind.service (sight_at one.given_back one.behind)
+      (λ server. server ≡ one.behind.server) (λ fault server. server ≡ one.behind.server) one.behind.draw one.behind.service (sight_at one.given_back one.behind)
   -- it was read to its end
   pub read : IfSome one.given_back (λ last. IsSomeAnd one.taken (λ first. ReadTo one.end first last))
   -- one call of its link failed where it ended by that, and else none
@@ -83,9 +83,13 @@ abbrev pub AllGoOn : {S V : Type 0} → List (Connection S V) → Type 0
 AllGoOn [] = ⊤
 AllGoOn (last ∷ earlier) = AllGoOn earlier × GoesOn last.end
 
+-- the desk had no room for an event
+abbrev pub IsFullEnd : ConnEnd → Type 0
+IsFullEnd end = (len : ℕ) × (end ≡ ends.Journal (faults.Full len))
+
 -- How they ended, of so many that there should be: all were served; the last one answered as many packets as there were left; no
 -- further one could be taken; or the last one was cut off, as its event couldn't be done: a call of the journal's disk failed, the
--- journal has no room for it, or memory ran out. A full journal leaves what want of memory leaves, so the connection ends as by that.
+-- journal has no room for it, or memory ran out. What stands behind it is what stood before that event.
 abbrev pub EndsBy : {S V : Type 0} → ℕ → Ending → List (Connection S V) → Type 0
 EndsBy conns Served connections = AllGoOn connections × (length connections ≡ conns)
 EndsBy conns NotTaken connections = AllGoOn connections × (length connections < conns)
@@ -94,7 +98,7 @@ EndsBy conns Stopped (last ∷ earlier) = AllGoOn earlier × (last.end ≡ ends.
 EndsBy conns Journal [] = ⊥
 EndsBy conns Journal (last ∷ earlier) = AllGoOn earlier × (last.end ≡ ends.Journal faults.Disk) × (length earlier < conns)
 EndsBy conns Full [] = ⊥
-EndsBy conns Full (last ∷ earlier) = AllGoOn earlier × (last.end ≡ ends.Memory) × (length earlier < conns)
+EndsBy conns Full (last ∷ earlier) = AllGoOn earlier × IsFullEnd last.end × (length earlier < conns)
 EndsBy conns Memory [] = ⊥
 EndsBy conns Memory (last ∷ earlier) = AllGoOn earlier × (last.end ≡ ends.Memory) × (length earlier < conns)
 

@@ -1,5 +1,5 @@
 -- What the private parts of a run do: scaffolding of proofs, and no promise.
-use Rattle.std.specs.Prelude.{◌≡◌, ◌≢◌, ◌⊎◌, ◌<◌, ◌+◌, ℕ, Bool, true, false, List, ◌∷◌, [], ◌++◌, codes, length, Option, Some, None, IfSome, IsSome, IsSomeAnd, ⊤}
+use Rattle.std.specs.Prelude.{◌≡◌, ◌≢◌, ◌⊎◌, ◌<◌, ◌+◌, ℕ, List, ◌∷◌, [], ◌++◌, codes, length, Option, Some, None, IfSome, IsSome, IsSomeAnd, ⊤}
 use Rattle.auth_keys.specs.declared.ring.RingKey.{RingKey}
 use Rattle.mt_edge.specs.Faults.{Rose, one_more}
 use Rattle.mt_edge.specs.declared.act.Act.TheVariants.{Ready, Failed as NotReady}
@@ -13,10 +13,9 @@ use Rattle.regs_service.specs.Registers as registers
 use Rattle.server_core.specs.declared.desk.DeskFault.{DeskFault}
 use Rattle.server_core.specs.declared.desk.DeskFault.TheVariants as faults
 use Rattle.server_rules.specs.Server.{Server}
-use Rattle.sess_journal.specs.Keeping.{Seen, StandsFor, count_of, disk_in, journal_bytes_max, place_by}
+use Rattle.sess_journal.specs.Keeping.{Seen, StandsFor, count_of, disk_in, place_by}
 use Rattle.sess_records.specs.Calls.{HasCause}
 use Rattle.sess_records.specs.Format.{Spells}
-use Rattle.sess_records.specs.Seen.{File}
 use Rattle.sess_records.specs.declared.fault.JournalFault.{JournalFault}
 use Rattle.sess_records.specs.declared.fault.JournalFault.TheVariants as causes
 use Rattle.sess_journal.specs.Files.{IsNoJournalAt}
@@ -25,6 +24,7 @@ use Rattle.statuses.specs.Outside.{HadFault, IsUntouched, Outside, Part, Tells, 
 use Rattle.statuses.specs.declared.status.Status.TheVariants as status
 use Rattle.statuses.specs.declared.status.Status.{Status}
 use Rattle.server_node.specs.Record.{Answered}
+use Rattle.server_node.specs.Served.{IfFull}
 use Rattle.server_node.specs.Trace.{Rules, rules_of}
 use Rattle.server_node.specs.Writes.{CountsDesk}
 use Rattle.server_node.specs.declared.conn.ConnEnd.{ConnEnd}
@@ -32,7 +32,7 @@ use Rattle.server_node.specs.declared.conn.ConnEnd.TheVariants as ends
 use Rattle.cmd_serve.specs.Connections.{AllGoOn, AreConnections, AreNoted, AreNotedBy, Between, Connection, CountsEnding, EndsBy, IsConnection, IsNoted, behind_all}
 use Rattle.cmd_serve.specs.Lines.{journal_fault, listening, not_listening}
 use Rattle.cmd_serve.specs.Packets.{outside_of}
-use Rattle.cmd_serve.specs.Journals.{AsksClock, Drawing, HoldsSome, IsFilled, IsOpen, IsUnlawful, Keeping, SeedsBy, SpellsServer, StartsBy, basis_of, event_bytes_max, Unopened, Faulty, Foreign, Starved, New, Old}
+use Rattle.cmd_serve.specs.Journals.{AsksClock, Drawing, HoldsSome, IsFilled, IsOpen, IsUnlawful, Keeping, SeedsBy, SpellsServer, SpellsUpTo, StartsBy, basis_of, Unopened, Faulty, Foreign, Starved, New, Old}
 use Rattle.cmd_serve.specs.Runs.{Calls, CountsDisks, Course, Unread, Refused, Unbegun, Shut, Deaf, Mute, Serves, Draws, Ends, FailsNever, FailsOnce, GoesBy, IfTold, IsBroken, IsFull, IsServed, Moments, Registers, ServesBy}
 use Rattle.cmd_serve.specs.declared.ending.Ending.{Ending}
 use Rattle.cmd_serve.specs.declared.ending.Ending.TheVariants.{Served, Stopped, NotTaken, Journal, Full, Memory}
@@ -111,57 +111,45 @@ EndsBehind served out Journal one = Tells out status.JournalFault journal_fault 
 EndsBehind served out Full one = Tells out status.JournalFault journal_fault one
 EndsBehind served out Memory one = (one ≡ status.Memory) × IsUntouched out
 
--- after a call of the disk that failed nothing is known of the desk; else it stands for this server
-abbrev pub LeavesDesk : Ending → (Server → Type 0) → Server → Type 0
-LeavesDesk Served desk server = desk server
-LeavesDesk Stopped desk server = desk server
-LeavesDesk NotTaken desk server = desk server
-LeavesDesk Journal desk server = ⊤
-LeavesDesk Full desk server = desk server
-LeavesDesk Memory desk server = desk server
+-- the journal had no room for an event: the desk stands for this server, and is what it is behind that fault
+pub record LeavesFull (desk : Server → Type 0) (behind : DeskFault → Server → Type 0) (server : Server) : Type 0 where
+  pub len : ℕ
+  pub stands : desk server
+  pub full : behind (faults.Full len) server
 
--- a desk that connections are served with answers these faults alone
+-- after a call of the disk that failed the desk is what it is behind that fault, for this server; else it stands for this one
+abbrev pub LeavesDesk : Ending → (Server → Type 0) → (DeskFault → Server → Type 0) → Server → Type 0
+LeavesDesk Served desk behind server = desk server
+LeavesDesk Stopped desk behind server = desk server
+LeavesDesk NotTaken desk behind server = desk server
+LeavesDesk Journal desk behind server = behind faults.Disk server
+LeavesDesk Full desk behind server = LeavesFull desk behind server
+LeavesDesk Memory desk behind server = desk server
+
+-- a desk that stood for a server answers these faults alone
 abbrev pub IsServeFault : DeskFault → Type 0
 IsServeFault faults.Memory = ⊤
 IsServeFault faults.Disk = ⊤
+IsServeFault (faults.Full len) = ⊤
 IsServeFault faults.Closed = ⊥
-IsServeFault (faults.Full len) = ⊥
 
--- a fault that leaves a server as it was is told as want of memory
-abbrev pub as_memory : DeskFault → DeskFault
-as_memory faults.Memory = faults.Memory
-as_memory faults.Disk = faults.Disk
-as_memory faults.Closed = faults.Memory
-as_memory (faults.Full len) = faults.Memory
+-- it may answer that it has no room
+abbrev pub MayBeFull : (DeskFault → Type 0) → Type 0
+MayBeFull may = (len : ℕ) × may (faults.Full len)
 
--- how connections end by that, where the journal is full
-abbrev pub ending_with : Bool → Ending → Ending
-ending_with true Memory = Full
-ending_with false Memory = Memory
-ending_with full Served = Served
-ending_with full Stopped = Stopped
-ending_with full NotTaken = NotTaken
-ending_with full Journal = Journal
-ending_with full Full = Full
+-- a connection that ends by the desk ends by a fault that this one may answer, and not by want of memory
+abbrev pub IsDeskEnd : (DeskFault → Type 0) → Option ConnEnd → Type 0
+IsDeskEnd may None = ⊤
+IsDeskEnd may (Some (ends.Journal fault)) = may fault × (fault ≢ faults.Memory)
+IsDeskEnd may (Some ends.Ended) = ⊤
+IsDeskEnd may (Some ends.LinkFault) = ⊤
+IsDeskEnd may (Some (ends.Frame fault)) = ⊤
+IsDeskEnd may (Some ends.Start) = ⊤
+IsDeskEnd may (Some ends.TurnsSpent) = ⊤
+IsDeskEnd may (Some ends.Stopped) = ⊤
+IsDeskEnd may (Some ends.Memory) = ⊤
 
--- an open journal that has no room for what one event may add to it
-abbrev pub HasNoRoom : {K : Type 0} → Option (File K) → Type 0
-HasNoRoom journal = IsSomeAnd journal (λ file. journal_bytes_max < file.len + event_bytes_max)
-
--- a connection that ends by the desk ends by a call of its disk
-abbrev pub IsDiskEnd : Option ConnEnd → Type 0
-IsDiskEnd None = ⊤
-IsDiskEnd (Some (ends.Journal fault)) = fault ≡ faults.Disk
-IsDiskEnd (Some ends.Ended) = ⊤
-IsDiskEnd (Some ends.LinkFault) = ⊤
-IsDiskEnd (Some (ends.Frame fault)) = ⊤
-IsDiskEnd (Some ends.Start) = ⊤
-IsDiskEnd (Some ends.TurnsSpent) = ⊤
-IsDiskEnd (Some ends.Stopped) = ⊤
-IsDiskEnd (Some ends.Memory) = ⊤
-
--- the count of the failed calls of what a desk keeps its events on, where a connection is taken, and for all of them; none of them
--- tells of a full journal yet
+-- the count of the failed calls of what a desk keeps its events on, where a connection is taken, and for all of them
 abbrev pub CountsTaken : Option ConnEnd → ℕ → ℕ → Type 0
 CountsTaken None before after = after ≡ before
 CountsTaken (Some end) before after = CountsDesk (Some end) before after
@@ -171,14 +159,14 @@ CountsDeskBy Journal before after = Rose before after
 CountsDeskBy Served before after = after ≡ before
 CountsDeskBy Stopped before after = after ≡ before
 CountsDeskBy NotTaken before after = after ≡ before
-CountsDeskBy Full before after = ⊥
+CountsDeskBy Full before after = after ≡ before
 CountsDeskBy Memory before after = after ≡ before
 
 -- Connections are served with a desk that stands there, and end so.
-pub record ServesOn {N D : Type 0} (rules : Rules D Registers) (options : ServeOptions) (first : Between D Registers) (net : Part (List NetCall) N) (given : Option (List ℕ)) (desk : Server → Type 0) (drawn : D) (ending : Ending) : Type 0 where
+pub record ServesOn {N D : Type 0} (rules : Rules D Registers) (options : ServeOptions) (first : Between D Registers) (net : Part (List NetCall) N) (given : Option (List ℕ)) (desk : Server → Type 0) (behind : DeskFault → Server → Type 0) (drawn : D) (ending : Ending) : Type 0 where
   pub connections : List (Connection D Registers)
   pub are : IsServed rules first options.conns given drawn connections ending
-  pub leaves : LeavesDesk ending desk (behind_all first connections).server
+  pub leaves : LeavesDesk ending desk behind (behind_all first connections).server
   pub noted : IfTold net (λ before after. (made : List NetCall) × (after ≡ before ++ made) × AreNotedBy ending connections made)
   pub counted : CountsEnding ending (net.faults net.before) (net.faults net.after)
   pub tells : IsSome (net.told net.before) → net.faults net.before ≡ 0 → IsSome (net.told net.after)
@@ -307,6 +295,7 @@ pub record ServesKept {N O K D : Type 0} (drawing : Drawing D) (options : ServeO
   pub calls : Calls options.port net course
   pub goes : GoesFrom drawing.step options first given course
   pub leaves : UnlessBroken course (IfSome (told back.0) (λ file. SpellsServer drawing ring (behind_all first (served_in course)).server (behind_all first (served_in course)).draw file.contents))
+  pub up_to : IfSome (told back.0) (λ file. SpellsUpTo drawing ring (behind_all first (served_in course)).server file.contents)
   pub same_place : place back.0 ≡ place_then
   pub counted : CountsFile course count_then (faults back.0)
   pub ends : Ends options out Unopened course back.1
@@ -322,9 +311,10 @@ pub record StandsAt {S V : Type 0} (desk : Server → Type 0) (drawn : S) (servi
   pub gave : given ≡ between.given
   pub count : left ≡ between.left
 
--- what stands where: a desk, its draw, a service, a clock, a count, and the calls of a net
+-- what stands where: a desk, what it is behind its faults, its draw, a service, a clock, a count, and the calls of a net
 pub record Side (S V : Type 0) : Type 1 where
   pub desk : Server → Type 0
+  pub behind : DeskFault → Server → Type 0
   pub drawn : S
   pub service : V
   pub given : Option (List ℕ)
@@ -341,9 +331,21 @@ pub record IsBeside {S V : Type 0} (side : Side S V) (between : Between S V) : T
   pub gave : side.given ≡ between.given
   pub count : side.left ≡ between.left
 
+-- behind a connection that ended by this fault of the desk
+pub record IsBehindFault {S V : Type 0} (fault : DeskFault) (side : Side S V) (between : Between S V) : Type 0 where
+  pub beside : IsBeside side between
+  pub behind : side.behind fault between.server
+  pub kept : IfFull fault (side.desk between.server)
+
+-- and by a full journal
+pub record IsBehindFull {S V : Type 0} (side : Side S V) (between : Between S V) : Type 0 where
+  pub len : ℕ
+  pub stands : IsAt side between
+  pub behind : side.behind (faults.Full len) between.server
+
 -- behind a connection that ended so
 abbrev pub IsBehind : {S V : Type 0} → ConnEnd → Side S V → Between S V → Type 0
-IsBehind (ends.Journal fault) side between = IsBeside side between
+IsBehind (ends.Journal fault) side between = IsBehindFault fault side between
 IsBehind ends.Ended side between = IsAt side between
 IsBehind ends.LinkFault side between = IsAt side between
 IsBehind (ends.Frame fault) side between = IsAt side between
@@ -357,8 +359,8 @@ abbrev pub IsBehindAll : {S V : Type 0} → Ending → Side S V → Between S V 
 IsBehindAll Served side between = IsAt side between
 IsBehindAll Stopped side between = IsAt side between
 IsBehindAll NotTaken side between = IsAt side between
-IsBehindAll Journal side between = IsBeside side between
-IsBehindAll Full side between = IsAt side between
+IsBehindAll Journal side between = IsBehindFault faults.Disk side between
+IsBehindAll Full side between = IsBehindFull side between
 IsBehindAll Memory side between = IsAt side between
 
 -- ---- one attempt to take a connection
@@ -388,11 +390,18 @@ abbrev pub LeavesCount : Option ConnEnd → Option ℕ → Option ℕ → Type 0
 LeavesCount None before after = after ≡ before
 LeavesCount (Some end) before after = Answered (Some end) before after
 
+-- how the connections end by a fault of the desk
+abbrev pub broken_by : DeskFault → Ending
+broken_by (faults.Full len) = Full
+broken_by faults.Disk = Journal
+broken_by faults.Closed = Journal
+broken_by faults.Memory = Journal
+
 -- how the connections end by it, where they do
 abbrev pub ending_by : Option ConnEnd → Option Ending
 ending_by None = Some NotTaken
 ending_by (Some ends.Stopped) = Some Stopped
-ending_by (Some (ends.Journal fault)) = Some Journal
+ending_by (Some (ends.Journal fault)) = Some (broken_by fault)
 ending_by (Some ends.Memory) = Some Memory
 ending_by (Some end) = None
 

@@ -1,15 +1,16 @@
 -- The journal of a run: what becomes of its file, and the server that comes of it.
-use Rattle.std.specs.Prelude.{◌≡◌, ◌≢◌, ◌<◌, ◌+◌, ◌⊎◌, ℕ, Option, Some, List, [], ◌∷◌, ◌++◌, length, slice_index_or, ⊤}
+use Rattle.std.specs.Prelude.{◌≡◌, ◌≢◌, ◌≤◌, ◌<◌, ◌+◌, ◌⊎◌, ℕ, Option, Some, List, [], ◌∷◌, ◌++◌, length, slice_index_or, ⊤}
 use Rattle.auth_keys.specs.declared.ring.RingKey.{RingKey}
 use Rattle.disks.specs.Named.{Named, NamesTold}
 use Rattle.draws.specs.Draws.{draw_after, next_bytes}
 use Rattle.envelope.specs.Lock.{mt_lock}
 use Rattle.server_node.specs.Connection.{Gave}
 use Rattle.server_rules.specs.Server.{Server, fresh_server}
-use Rattle.sess_journal.specs.Keeping.{ending, journal_bytes_max}
+use Rattle.sess_journal.specs.Keeping.{ending, event_bytes_max, journal_bytes_max}
 use Rattle.sess_journal.specs.Opening.{HaveSameRecords, IsLawfulFile}
 use Rattle.sess_records.specs.declared.records.Record.{Record}
 use Rattle.sess_records.specs.Format.{Spells}
+use Rattle.sess_records.specs.Standing.{SpellsSome}
 use Rattle.sess_journal.specs.Files.{IsNoJournalAt}
 use Rattle.sess_journal.specs.Replay.{Basis, Reached, Replays, at_first}
 
@@ -118,10 +119,6 @@ pub record HoldsSome (name : List ℕ) (P : List ℕ → Type 0) (told : NamesTo
   pub holds : Holds name bytes told.files
   pub says : P bytes
 
--- the most bytes that one event adds: those of a packet of 1,048,576, the longest one that a frame has, and 22 beside it
-abbrev pub event_bytes_max : ℕ
-event_bytes_max = 1048598
-
 -- bytes that leave no room for what one event may add
 abbrev pub IsFilled : List ℕ → Type 0
 IsFilled bytes = journal_bytes_max < length bytes + event_bytes_max
@@ -162,6 +159,20 @@ pub record SpellsServer {D : Type 0} (drawing : Drawing D) (ring : List RingKey)
   pub replays : Replays (basis_of drawing ring seed) entries at_first reached
   pub same : server ≡ record reached.server { now = server.now }
   pub draw_is : draw ≡ drawing.standing_at seed reached.place
+
+-- Lawful records that lead to this server, but for the moment that it has come to since, and the first ones of at most two more,
+-- as an event adds them.
+pub record SpellsUpTo {D : Type 0} (drawing : Drawing D) (ring : List RingKey) (server : Server) (bytes : List ℕ) : Type 0 where
+  pub seed : List ℕ
+  pub entries : List Record
+  pub reached : Reached
+  pub replays : Replays (basis_of drawing ring seed) entries at_first reached
+  pub same : server ≡ record reached.server { now = server.now }
+  pub more : List Record
+  pub few : length more ≤ 2
+  pub after : Reached
+  pub lawful : Replays (basis_of drawing ring seed) (entries ++ more) at_first after
+  pub spells : SpellsSome seed entries more bytes
 
 -- at the return, where there is a journal and its server and its draw have come to be these
 abbrev pub LeavesBy : {D : Type 0} → Drawing D → List RingKey → List ℕ → Keeping → Server → D → NamesTold → Type 0

@@ -17,7 +17,7 @@ use Rattle.statuses.specs.Outside.{HadFault, IsUntouched, Outside, Part, Tells, 
 use Rattle.statuses.specs.declared.status.Status.{Status}
 use Rattle.statuses.specs.declared.status.Status.TheVariants as status
 use Rattle.cmd_serve.specs.Connections.{AreConnections, AreNotedBy, Between, Connection, CountsEnding, EndsBy, behind_all}
-use Rattle.cmd_serve.specs.Journals.{AsksClock, AsksFor, Drawing, FoundBy, Holds, HoldsSome, IsFilled, IsJournal, IsOpen, IsShut, Keeping, LeavesBy, SeedsBy, StartsBy, Unopened, Faulty, Foreign, Starved, New, Old}
+use Rattle.cmd_serve.specs.Journals.{AsksClock, AsksFor, Drawing, FoundBy, Holds, HoldsSome, IsFilled, IsJournal, IsOpen, IsShut, Keeping, LeavesBy, SeedsBy, SpellsUpTo, StartsBy, Unopened, Faulty, Foreign, Starved, New, Old}
 use Rattle.cmd_serve.specs.Lines.{journal_fault, last_line, listening, not_listening}
 use Rattle.cmd_serve.specs.Packets.{outside_of}
 use Rattle.cmd_serve.specs.declared.ending.Ending.{Ending}
@@ -175,7 +175,8 @@ pub record OpensNone {D K : Type 0} (drawing : Drawing D) (ring : List RingKey) 
   pub opens : Opens drawing ring name disks moments.before moments.after draws keeping
 
 -- These connections begin with its server, a fresh service, and as many packets to answer as the options say. Where no fault of a
--- disk was counted the file spells at the return what stands behind them.
+-- disk was counted the file spells at the return what stands behind them; and even else it spells records that lead there, with
+-- at most those of one event behind them, which may be torn.
 pub record Keeps {D K : Type 0} (drawing : Drawing D) (ring : List RingKey) (options : ServeOptions) (name : List ℕ) (disks : Part NamesTold K) (moments : Moments) (draws : Draws D) (keeping : Keeping) (connections : List (Connection D Registers)) : Type 0 where
   pub opened : IsOpen keeping
   pub first : Between D Registers
@@ -184,6 +185,7 @@ pub record Keeps {D K : Type 0} (drawing : Drawing D) (ring : List RingKey) (opt
   pub service : first.service ≡ registers.fresh
   pub left : first.left ≡ options.stop_after
   pub leaves : (HadFault disks → ⊥) → IfTold disks (λ before after. LeavesBy drawing ring name keeping (behind_all first connections).server (behind_all first connections).draw after)
+  pub up_to : IfTold disks (λ before after. HoldsSome name (SpellsUpTo drawing ring (behind_all first connections).server) after)
 
 -- with a journal of this name
 abbrev pub JournalsBy : {D K : Type 0} → Drawing D → ServeOptions → List ℕ → Part NamesTold K → Moments → Draws D → Keeping → Course D → Type 0

@@ -1,11 +1,9 @@
 //! One connection of a run.
 
 ghost use Rattle.std.specs.Prelude.{◌≡◌, ◌≢◌, IsSome, Some};
-ghost use Rattle.server_core.specs.declared.desk.DeskFault.{DeskFault};
-ghost use Rattle.server_core.specs.declared.desk.DeskFault.TheVariants as faults;
 ghost use Rattle.server_node.specs.Trace.{IsOutside, Outside, rules_of};
 ghost use Rattle.cmd_serve.specs.Connections.{Between};
-ghost use Rattle.cmd_serve.specs.Inner.{CountsTaken, CountsTaking, IsDiskEnd, IsServeFault, LeavesCount, StandsAt, Took};
+ghost use Rattle.cmd_serve.specs.Inner.{CountsTaken, CountsTaking, IsDeskEnd, LeavesCount, StandsAt, Took};
 
 use mt_edge::{Clock, Link, Linked, Net};
 use regs_service::Service;
@@ -24,18 +22,17 @@ pub(crate) fn serve_next<N: Net, K: Desk, V: Service, C: Clock>(
     left: &mut Option<u64>,
 ) -> Option<ConnEnd>
     requires some { left.old ≢ Some 0 }
-    requires faults { (fault : DeskFault) → K.MayAnswer fault → IsServeFault fault }
     ensures took { (outside : Outside) (before : Between K.D V) → IsOutside K.S.lock (K.keys desk.old) outside
         → StandsAt (K.StandsFor desk.old) (K.drawn desk.old) service.old (C.given clock.old) left.old before
         → Took (rules_of K.D.step V.step outside) before (N.calls net.old) result
-        (record { desk = K.StandsFor desk.new; drawn = K.drawn desk.new; service = service.new; given = C.given clock.new; left = left.new; calls = N.calls net.new }) }
+        (record { desk = K.StandsFor desk.new; behind = K.Behind desk.new; drawn = K.drawn desk.new; service = service.new; given = C.given clock.new; left = left.new; calls = N.calls net.new }) }
     ensures counted { CountsTaking result (N.faults net.old) (N.faults net.new) }
     ensures first_fault { IsSome (N.calls net.old) → N.faults net.old ≡ 0 → IsSome (N.calls net.new) }
     ensures left { LeavesCount result left.old left.new }
-    ensures journal { IsDiskEnd result }
+    ensures journal { IsDeskEnd K.MayAnswer result }
     ensures desk_counted { CountsTaken result (K.fault_count desk.old) (K.fault_count desk.new) }
     ensures same_keys { K.keys desk.new ≡ K.keys desk.old }
-    ensures same_reference { K.draw_name desk.new ≡ K.draw_name desk.old }
+    ensures same_binding { K.bound_to desk.new ≡ K.bound_to desk.old }
 {
     match net.accept() {
         Linked::Link(link) => {

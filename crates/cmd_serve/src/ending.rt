@@ -1,8 +1,9 @@
 //! How the connections of a run end.
 
 ghost use Rattle.std.specs.Prelude.{◌≡◌};
-ghost use Rattle.cmd_serve.specs.Inner.{ending_by, ending_with};
+ghost use Rattle.cmd_serve.specs.Inner.{broken_by, ending_by};
 
+use server_core::DeskFault;
 use server_node::ConnEnd;
 
 /// How the connections of a run end.
@@ -22,13 +23,13 @@ pub(crate) enum Ending {
     Memory,
 }
 
-/// How the connections of a run with a journal ended: where that is full, want of memory tells of it.
-pub(crate) fn told_by(full: bool, ending: Ending) -> Ending
-    ensures { result ≡ ending_with full ending }
+/// How the connections end by a fault of the desk.
+fn broken_of(fault: DeskFault) -> Ending
+    ensures { result ≡ broken_by fault }
 {
-    match ending {
-        Ending::Memory if full => Ending::Full,
-        ending => ending,
+    match fault {
+        DeskFault::Full { .. } => Ending::Full,
+        DeskFault::Disk | DeskFault::Closed | DeskFault::Memory => Ending::Journal,
     }
 }
 
@@ -39,7 +40,7 @@ pub(crate) fn ending_of(end: Option<ConnEnd>) -> Option<Ending>
     match end {
         None => Some(Ending::NotTaken),
         Some(ConnEnd::Stopped) => Some(Ending::Stopped),
-        Some(ConnEnd::Journal(_)) => Some(Ending::Journal),
+        Some(ConnEnd::Journal(fault)) => Some(broken_of(fault)),
         Some(ConnEnd::Memory) => Some(Ending::Memory),
         Some(_) => None,
     }

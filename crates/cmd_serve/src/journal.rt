@@ -9,8 +9,6 @@ ghost use Rattle.cmd_serve.specs.Journals.{basis_of};
 ghost use Rattle.cmd_serve.specs.Lines.{last_line, listening};
 ghost use Rattle.cmd_serve.specs.declared.ending.Ending.TheVariants.{Served};
 
-use crate::ending::told_by;
-use crate::journaled::Journaled;
 use crate::keeping::keeping;
 use crate::laws::rings_say_as_worked_out;
 use crate::lines::{JOURNAL_FAULT, Lines, say};
@@ -91,14 +89,13 @@ fn serve_kept<O: Sink, N: Net, C: Clock, D: Seeded + Drop, K: Disk + Drop>(
 {
     rings_say_as_worked_out();
     calls_in_a_row();
-    let mut desk = Journaled::new(kept);
+    let mut kept = kept;
     if let Err(status) = listen(lines, options.port, out, net) {
-        return (desk.into_disk(), status);
+        return (kept.into_disk(), status);
     }
-    let ending = serve(alloc, &mut desk, options, net, clock);
-    let full = desk.is_full();
-    let status = last(lines, out, told_by(full, ending));
-    let disk = desk.into_disk();
+    let ending = serve(alloc, &mut kept, options, net, clock);
+    let status = last(lines, out, ending);
+    let disk = kept.into_disk();
     (disk, status)
 }
 

@@ -8,7 +8,6 @@ mod connection;
 mod connections;
 mod ending;
 mod journal;
-mod journaled;
 mod keeping;
 pub mod laws;
 mod lines;

@@ -3,12 +3,13 @@
 ghost use Rattle.std.specs.Prelude.{◌≡◌, ◌≢◌, ◌⊎◌, IfErr, OnOk, Some};
 ghost use Rattle.regs_service.specs.Registers as registers;
 ghost use Rattle.server_core.specs.declared.desk.DeskFault.{DeskFault};
+ghost use Rattle.server_rules.specs.Server.{Server as Rules};
 ghost use Rattle.server_node.specs.Trace.{IsOutside, Outside, rules_of};
 ghost use Rattle.cmd_serve.specs.Connections.{Between};
-ghost use Rattle.cmd_serve.specs.Inner.{CountsDeskBy, EndsBehind, Hears, IsDeaf, IsMute, IsServeFault, ServesOn, StandsAt};
+ghost use Rattle.cmd_serve.specs.Inner.{CountsDeskBy, EndsBehind, Hears, IsDeaf, IsMute, IsServeFault, MayBeFull, ServesOn, StandsAt};
 ghost use Rattle.cmd_serve.specs.Lines.{last_line, listening};
 ghost use Rattle.cmd_serve.specs.Runs.{Registers};
-ghost use Rattle.cmd_serve.specs.declared.ending.Ending.TheVariants.{Served};
+ghost use Rattle.cmd_serve.specs.declared.ending.Ending.TheVariants.{Full, Served};
 
 use crate::connections::serve_all;
 use crate::ending::Ending;
@@ -60,15 +61,18 @@ pub(crate) fn serve<N: Net, K: Desk, C: Clock>(
     clock: &mut C,
 ) -> Ending
     requires some { options.now.stop_after ≢ Some 0 }
-    requires faults { (fault : DeskFault) → K.MayAnswer fault → IsServeFault fault }
+    requires faults { (fault : DeskFault) (one : K) (server : Rules) → K.MayAnswer fault → K.Behind one fault server → IsServeFault fault }
     ensures serves { (outside : Outside) (first : Between K.D Registers) → IsOutside K.S.lock (K.keys desk.old) outside
         → StandsAt (K.StandsFor desk.old) (K.drawn desk.old) registers.fresh (C.given clock.old) options.now.stop_after first
         → ServesOn (rules_of K.D.step registers.step outside) options.now first
         (record { told = N.calls; faults = N.faults; before = net.old; after = net.new })
-        (C.given clock.new) (K.StandsFor desk.new) (K.drawn desk.new) result }
-    ensures desk_counted { CountsDeskBy result (K.fault_count desk.old) (K.fault_count desk.new) }
+        (C.given clock.new) (K.StandsFor desk.new) (K.Behind desk.new) (K.drawn desk.new) result }
+    ensures desk_counted { (outside : Outside) (first : Between K.D Registers) → IsOutside K.S.lock (K.keys desk.old) outside
+        → StandsAt (K.StandsFor desk.old) (K.drawn desk.old) registers.fresh (C.given clock.old) options.now.stop_after first
+        → CountsDeskBy result (K.fault_count desk.old) (K.fault_count desk.new) }
+    ensures full { result ≡ Full → MayBeFull K.MayAnswer }
     ensures same_keys { K.keys desk.new ≡ K.keys desk.old }
-    ensures same_reference { K.draw_name desk.new ≡ K.draw_name desk.old }
+    ensures same_binding { K.bound_to desk.new ≡ K.bound_to desk.old }
 {
     let mut service = Regs::fresh(alloc);
     let mut left = options.stop_after;

@@ -20,6 +20,7 @@ use Rattle.client_rules.specs.Events as wishes
 use Rattle.server_rules.specs.Events as events
 use Rattle.server_rules.specs.Events.{Course, after_event}
 use Rattle.server_node.specs.Connection.{Close, Heard, Hearing, Place, Spent, Turn, Unbegun, Unfed, Unread, Working, began, closes, turned, turns_from}
+use Rattle.server_core.specs.declared.desk.DeskFault.{DeskFault}
 use Rattle.server_node.specs.Served.{LeavesBy, Serves}
 use Rattle.server_node.specs.Trace.{Act, Attach, Hear, Rules, Run, Talk, Tick, after_act, after_acts, hears_as, moment_at, packets_acts, rules_of, work_acts}
 use Rattle.server_node.specs.declared.conn.ConnEnd.{ConnEnd}
@@ -230,15 +231,15 @@ module _ {D : Type 0} (step : D → ℕ × D) (ring : List RingKey) where
 
   -- ---- what a connection leaves
 
-  goes-on : (end : ConnEnd) (desk : Server → Type 0) (drawn : D) (service : Registers) (talk : Talk D Registers) → GoesOn end → LeavesBy end desk drawn service talk → Serves desk drawn service talk
-  goes-on ends.Ended desk drawn service talk on leaves = leaves
-  goes-on ends.LinkFault desk drawn service talk on leaves = leaves
-  goes-on (ends.Frame fault) desk drawn service talk on leaves = leaves
-  goes-on ends.Start desk drawn service talk on leaves = leaves
-  goes-on ends.TurnsSpent desk drawn service talk on leaves = leaves
-  goes-on ends.Stopped desk drawn service talk on leaves = absurd on
-  goes-on (ends.Journal fault) desk drawn service talk on leaves = absurd on
-  goes-on ends.Memory desk drawn service talk on leaves = absurd on
+  goes-on : (end : ConnEnd) (desk : Server → Type 0) (behind : DeskFault → Server → Type 0) (drawn : D) (service : Registers) (talk : Talk D Registers) → GoesOn end → LeavesBy end desk behind drawn service talk → Serves desk drawn service talk
+  goes-on ends.Ended desk behind drawn service talk on leaves = leaves
+  goes-on ends.LinkFault desk behind drawn service talk on leaves = leaves
+  goes-on (ends.Frame fault) desk behind drawn service talk on leaves = leaves
+  goes-on ends.Start desk behind drawn service talk on leaves = leaves
+  goes-on ends.TurnsSpent desk behind drawn service talk on leaves = leaves
+  goes-on ends.Stopped desk behind drawn service talk on leaves = absurd on
+  goes-on (ends.Journal fault) desk behind drawn service talk on leaves = absurd on
+  goes-on ends.Memory desk behind drawn service talk on leaves = absurd on
 
   connection-host : (before : Between D Registers) (one : Connection D Registers) (is : IsConnection rules before one) → AreTimelyActs (trace_acts is.trace)
       → of_talk (closes rules is.trace.close (turns_from rules (began (talk_at before)) is.trace.turns)).talk ≡ fold (host_on setting) (of_between before) (trace_acts is.trace)
@@ -256,7 +257,7 @@ module _ {D : Type 0} (step : D → ℕ × D) (ring : List RingKey) where
       let rest = all-host first earlier are.0 on.0 (timely-front front own timely) in
       let host = connection-host before last are.1 (timely-back front own timely) in
       let talk = (closes rules are.1.trace.close (turns_from rules (began (talk_at before)) are.1.trace.turns)).talk in
-      let leaves = goes-on last.end (λ server. server ≡ last.behind.server) last.behind.draw last.behind.service talk on.1 are.1.trace.leaves in
+      let leaves = goes-on last.end (λ server. server ≡ last.behind.server) (λ fault server. server ≡ last.behind.server) last.behind.draw last.behind.service talk on.1 are.1.trace.leaves in
       let same : of_between last.behind ≡ of_talk talk =
       ap (λ (s : Server). record { server = s; service = last.behind.service; draw = last.behind.draw }) (sym leaves.server)
       ∙ (ap (λ (v : Registers). record { server = talk.server; service = v; draw = last.behind.draw }) leaves.served
@@ -267,15 +268,15 @@ module _ {D : Type 0} (step : D → ℕ × D) (ring : List RingKey) where
   abbrev AreLeftBy : Between D Registers → Held → Type 0
   AreLeftBy behind host = (behind.server ≡ host.server) × (behind.service ≡ host.service)
 
-  left-by : (end : ConnEnd) (behind : Between D Registers) (talk : Talk D Registers) → (end ≡ ends.Stopped) ⊎ (end ≡ ends.Memory) → LeavesBy end (λ server. server ≡ behind.server) behind.draw behind.service talk
+  left-by : (end : ConnEnd) (behind : Between D Registers) (talk : Talk D Registers) → (end ≡ ends.Stopped) ⊎ (end ≡ ends.Memory) → LeavesBy end (λ server. server ≡ behind.server) (λ fault server. server ≡ behind.server) behind.draw behind.service talk
       → AreLeftBy behind (of_talk talk)
   left-by end behind talk (inl stopped) leaves =
       let served : Serves (λ server. server ≡ behind.server) behind.draw behind.service talk =
-      subst (λ (e : ConnEnd). LeavesBy e (λ server. server ≡ behind.server) behind.draw behind.service talk) stopped leaves in
+      subst (λ (e : ConnEnd). LeavesBy e (λ server. server ≡ behind.server) (λ fault server. server ≡ behind.server) behind.draw behind.service talk) stopped leaves in
       (sym served.server, served.served)
   left-by end behind talk (inr memory) leaves =
       let both : (talk.server ≡ behind.server) × (behind.service ≡ talk.service) =
-      subst (λ (e : ConnEnd). LeavesBy e (λ server. server ≡ behind.server) behind.draw behind.service talk) memory leaves in
+      subst (λ (e : ConnEnd). LeavesBy e (λ server. server ≡ behind.server) (λ fault server. server ≡ behind.server) behind.draw behind.service talk) memory leaves in
       (sym both.0, both.1)
 
   last-host : (first : Between D Registers) (last : Connection D Registers) (earlier : List (Connection D Registers)) (are : AreConnections rules first (last ∷ earlier)) → AllGoOn earlier

@@ -1,5 +1,6 @@
 -- The events of a server that the trace of its connections tells of, in order.
 use Rattle.std.specs.Prelude.{List, [], ◌∷◌, ◌++◌}
+use Rattle.server_core.specs.declared.desk.DeskFault.{DeskFault}
 use Rattle.server_rules.specs.Server.{Server}
 use Rattle.server_node.specs.Connection.{Close, Heard, Hearing, Place, ServerTrace, Sight, Spent, Turn, Unbegun, Unfed, Unread, Working, began, turns_from}
 use Rattle.server_node.specs.Trace.{Act, Rules, Talk, packets_acts, work_acts}
@@ -29,8 +30,8 @@ close_acts rules (Working turn acts end) place = packets_acts rules turn.now tur
 abbrev pub connection_acts : {S V : Type 0} → Rules S V → Talk S V → List Turn → Close → List Act
 connection_acts rules talk turns close = turns_acts rules (began talk) turns ++ close_acts rules close (turns_from rules (began talk) turns)
 
-abbrev pub trace_acts : {S V : Type 0} {rules : Rules S V} {talk : Talk S V} {before : Sight} {end : ConnEnd} {desk : Server → Type 0} {drawn : S} {service : V} {after : Sight}
-    → ServerTrace rules talk before end desk drawn service after → List Act
+abbrev pub trace_acts : {S V : Type 0} {rules : Rules S V} {talk : Talk S V} {before : Sight} {end : ConnEnd} {desk : Server → Type 0} {behind : DeskFault → Server → Type 0} {drawn : S} {service : V} {after : Sight}
+    → ServerTrace rules talk before end desk behind drawn service after → List Act
 trace_acts {rules = rules} {talk = talk} trace = connection_acts rules talk trace.turns trace.close
 
 -- of all connections of a run, the last one first

@@ -34,6 +34,10 @@ abbrev pub IsShortRunAt : {V : Type 0} → ℕ → Step V → V → Server → T
 IsShortRunAt place serve service server =
     (job : Job) → ready_job place server.jobs ≡ Some job → length (serve service job.request).0 ≤ reply_bytes_max
 
+-- the most bytes of a packet that a frame carries
+abbrev pub frame_bytes_max : ℕ
+frame_bytes_max = 1048576
+
 -- How many packets and entries an event gives at most beside one for each unfinished job: twice as many as a session keeps
 -- replies. All of these may be said again, and what else an event answers is fewer.
 abbrev pub event_most : ℕ

@@ -1,6 +1,6 @@
 //! A desk: what takes the packets of connections to a server.
 
-ghost use Rattle.std.specs.Prelude.{◌≡◌, ◌<◌, length, max, IfErr, IfOk, OnOk};
+ghost use Rattle.std.specs.Prelude.{◌≡◌, ◌≤◌, ◌<◌, ℕ, length, max, IfErr, IfOk, OnOk};
 ghost use Rattle.envelope.specs.declared.parts.Dir.TheVariants.{Up};
 ghost use Rattle.envelope.specs.declared.parts.Envelope.{Envelope as Sealed};
 ghost use Rattle.envelope.specs.declared.refusal.Refusal.{Refusal as Refused};
@@ -11,7 +11,7 @@ ghost use Rattle.server_rules.specs.Answer.{after_attach, after_packet, after_ti
 ghost use Rattle.server_rules.specs.Server.{Server as Rules};
 ghost use Rattle.server_session.specs.Says.{Keys, setting_of};
 ghost use Rattle.server_core.specs.declared.desk.DeskFault.TheVariants as faults;
-ghost use Rattle.server_core.specs.Desks.{Counts, Does, DoesNothing, IsBetweenEvents};
+ghost use Rattle.server_core.specs.Desks.{Counts, Does, DoesNothing, IsBetweenEvents, frame_bytes_max};
 ghost use Rattle.server_core.specs.Packets.{IsHeardOf, brought_in, effects_in};
 
 use crate::desk::{DeskFault, Reply};
@@ -24,8 +24,8 @@ use std::alloc::Global;
 
 /// What takes the packets of connections to a server, and does its events: the server itself, or one that keeps what it
 /// did on a disk. It stands for a server of the definitions, which is in order between events, and for a draw. Each event
-/// makes it stand for what the definitions say of that event, unless a fault comes that isn't `Memory`: of such a desk
-/// nothing is known any more.
+/// makes it stand for what the definitions say of that event. After `Memory` and `Full` it stands for what it stood for; what is
+/// known of it after `Disk` it says itself (`Behind`).
 pub trait Desk {
     ghost use Rattle.std.specs.Prelude.{ℕ, List};
     ghost use Rattle.auth_keys.specs.declared.ring.RingKey.{RingKey};
@@ -47,8 +47,9 @@ pub trait Desk {
     /// The draw that it stands for.
     ghost drawn: { Self → Self.D };
 
-    /// The reference that its draw is behind, where it is behind one. No call changes it.
-    ghost draw_name: { Self → ℕ };
+    /// What it is bound to, which no call changes: the reference that its draw is behind, or the place of the file that it keeps
+    /// its events in.
+    ghost bound_to: { Self → ℕ };
 
     /// How many calls of what it keeps its events on have failed: 0 where it keeps none.
     ghost fault_count: { Self → ℕ };
@@ -59,11 +60,14 @@ pub trait Desk {
     /// The faults that its calls may answer.
     ghost MayAnswer: { DeskFault → Type 0 };
 
+    /// What is known of it behind a call that answered this fault, where it stood for this server before.
+    ghost Behind: { Self → DeskFault → Server → Type 0 };
+
     /// A packet comes, as to [`Server::on_packet`](crate::Server::on_packet).
     ///
     /// # Errors
     ///
-    /// `Memory`, and then it stands for the server that it stood for; another fault of the desk.
+    /// `Memory` or `Full`, and then it stands for the server that it stood for; another fault of the desk.
     fn on_packet(&mut self, alloc: Global, now: Moment, packet: &[u8]) -> Result<Reply, DeskFault>
         // What it opens to, or why it doesn't open. By the seal's law no packet both opens and is refused.
         ensures heard { (server : Rules) → StandsFor self.old server
@@ -76,9 +80,12 @@ pub trait Desk {
             → IfOk result (λ reply. Does (StandsFor self.new) Self.S.lock (keys self.old) (drawn self.new) (effects_in reply)
             (after_packet (setting_of (max server.now now) Self.D.step ring) (brought_in envelope) server (drawn self.old))) }
         ensures unchanged_on_memory { (server : Rules) → StandsFor self.old server → IfErr result (λ fault. fault ≡ faults.Memory → StandsFor self.new server) }
+        ensures unchanged_on_full { (server : Rules) (len : ℕ) → StandsFor self.old server → IfErr result (λ fault. fault ≡ faults.Full len → StandsFor self.new server) }
+        // By what it tells of a packet that a frame may carry.
+        ensures behind { (server : Rules) → StandsFor self.old server → length packet.now ≤ frame_bytes_max → IfErr result (λ fault. Behind self.new fault server) }
         ensures faults { IfErr result MayAnswer }
         ensures same_keys { keys self.new ≡ keys self.old }
-        ensures same_reference { draw_name self.new ≡ draw_name self.old }
+        ensures same_binding { bound_to self.new ≡ bound_to self.old }
         ensures counted { Counts result (fault_count self.old) (fault_count self.new) };
 
     /// How many jobs are ready.
@@ -94,8 +101,8 @@ pub trait Desk {
     ///
     /// # Errors
     ///
-    /// `Memory`, and then it stands for the server that it stood for, and the service is as it was; another fault of the
-    /// desk.
+    /// `Memory` or `Full`, and then it stands for the server that it stood for, and the service is as it was; another fault of
+    /// the desk.
     fn work<V: Service>(
         &mut self,
         alloc: Global,
@@ -110,32 +117,37 @@ pub trait Desk {
         ensures served { (ring : Keys) (server : Rules) → StandsFor self.old server
             → OnOk result (service.new ≡ (after_work (setting_of (max server.now now) Self.D.step ring) k V.step service.old server (drawn self.old)).1) }
         ensures unchanged_on_memory { (server : Rules) → StandsFor self.old server → IfErr result (λ fault. fault ≡ faults.Memory → StandsFor self.new server) }
+        ensures unchanged_on_full { (server : Rules) (len : ℕ) → StandsFor self.old server → IfErr result (λ fault. fault ≡ faults.Full len → StandsFor self.new server) }
+        ensures behind { (server : Rules) → StandsFor self.old server → IfErr result (λ fault. Behind self.new fault server) }
         ensures same_service_on_memory { IfErr result (λ fault. fault ≡ faults.Memory → service.new ≡ service.old) }
+        ensures same_service_on_full { (len : ℕ) → IfErr result (λ fault. fault ≡ faults.Full len → service.new ≡ service.old) }
         ensures faults { IfErr result MayAnswer }
         ensures same_keys { keys self.new ≡ keys self.old }
-        ensures same_reference { draw_name self.new ≡ draw_name self.old }
+        ensures same_binding { bound_to self.new ≡ bound_to self.old }
         ensures counted { Counts result (fault_count self.old) (fault_count self.new) };
 
     /// Answers the jobs that have waited too long, as [`Server::tick`](crate::Server::tick).
     ///
     /// # Errors
     ///
-    /// `Memory`, and then it stands for the server that it stood for; another fault of the desk.
+    /// `Memory` or `Full`, and then it stands for the server that it stood for; another fault of the desk.
     fn tick(&mut self, alloc: Global, now: Moment) -> Result<Effects, DeskFault>
         ensures given { (ring : Keys) (server : Rules) → StandsFor self.old server
             → IfOk result (λ effects. Does (StandsFor self.new) Self.S.lock (keys self.old) (drawn self.new) effects
             (after_tick (setting_of (max server.now now) Self.D.step ring) server (drawn self.old))) }
         ensures unchanged_on_memory { (server : Rules) → StandsFor self.old server → IfErr result (λ fault. fault ≡ faults.Memory → StandsFor self.new server) }
+        ensures unchanged_on_full { (server : Rules) (len : ℕ) → StandsFor self.old server → IfErr result (λ fault. fault ≡ faults.Full len → StandsFor self.new server) }
+        ensures behind { (server : Rules) → StandsFor self.old server → IfErr result (λ fault. Behind self.new fault server) }
         ensures faults { IfErr result MayAnswer }
         ensures same_keys { keys self.new ≡ keys self.old }
-        ensures same_reference { draw_name self.new ≡ draw_name self.old }
+        ensures same_binding { bound_to self.new ≡ bound_to self.old }
         ensures counted { Counts result (fault_count self.old) (fault_count self.new) };
 
     /// A connection is opened for the session of this name, as [`Server::attach`](crate::Server::attach).
     ///
     /// # Errors
     ///
-    /// `Memory`, and then it stands for the server that it stood for; another fault of the desk.
+    /// `Memory` or `Full`, and then it stands for the server that it stood for; another fault of the desk.
     fn attach(
         &mut self,
         alloc: Global,
@@ -147,9 +159,11 @@ pub trait Desk {
             → IfOk result (λ effects. Does (StandsFor self.new) Self.S.lock (keys self.old) (drawn self.new) effects
             (after_attach (setting_of (max server.now now) Self.D.step ring) (record { key = key; session = session }) server (drawn self.old))) }
         ensures unchanged_on_memory { (server : Rules) → StandsFor self.old server → IfErr result (λ fault. fault ≡ faults.Memory → StandsFor self.new server) }
+        ensures unchanged_on_full { (server : Rules) (len : ℕ) → StandsFor self.old server → IfErr result (λ fault. fault ≡ faults.Full len → StandsFor self.new server) }
+        ensures behind { (server : Rules) → StandsFor self.old server → IfErr result (λ fault. Behind self.new fault server) }
         ensures faults { IfErr result MayAnswer }
         ensures same_keys { keys self.new ≡ keys self.old }
-        ensures same_reference { draw_name self.new ≡ draw_name self.old }
+        ensures same_binding { bound_to self.new ≡ bound_to self.old }
         ensures counted { Counts result (fault_count self.old) (fault_count self.new) };
 
     /// A law: a server that a desk stands for is in order. Does nothing.

@@ -1,6 +1,6 @@
 //! A desk that keeps nothing beside its server.
 
-ghost use Rattle.std.specs.Prelude.{◌≡◌, ◌≤◌};
+ghost use Rattle.std.specs.Prelude.{◌≡◌, ◌≤◌, ⊤};
 ghost use Rattle.msg_ids.specs.Moments.{latest_moment};
 ghost use Rattle.waits.specs.Jobs.{ready_count};
 ghost use Rattle.server_core.specs.declared.desk.DeskFault.TheVariants as faults;
@@ -39,13 +39,16 @@ impl<'a, S: Seal, D: Draw> Desk for Plain<'a, S, D> {
 
     ghost drawn = { λ desk. desk.draw.now };
 
-    ghost draw_name = { λ desk. desk.draw.ghost_name };
+    ghost bound_to = { λ desk. desk.draw.ghost_name };
 
     ghost fault_count = { λ desk. 0 };
 
     ghost ready_jobs = { λ desk. ready_count desk.server.now.jobs };
 
     ghost MayAnswer = { λ fault. fault ≡ faults.Memory };
+
+    // After `Memory` it stands for what it stood for, as any desk.
+    ghost Behind = { λ desk fault server. ⊤ };
 
     fn on_packet(&mut self, alloc: Global, now: Moment, packet: &[u8]) -> Result<Reply, DeskFault> {
         events_keep_order::<D>();

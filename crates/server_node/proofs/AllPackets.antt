@@ -148,8 +148,8 @@ all_last : {S V : Type 0} (step : S → ℕ × S) (serve : Step V) (lock : Lock)
 all_last step serve lock ring other side middle later now count wire between left left_then end same so_far last = record {
   packets = so_far.packets;
   packet = last.packet;
-  did = λ service. did_then step serve lock ring (side service) (middle service) (later service) (λ rules talk. packets_acts rules now so_far.packets talk) (λ rules talk. packet_acts rules now last.packet talk) (Some end)
-      (so_far.did service) (did_under step serve lock ring other (middle service) (later service) (λ rules talk. packet_acts rules now last.packet talk) (Some end) same (last.did service));
+  did = λ short service. did_then step serve lock ring (side service) (middle service) (later service) (λ rules talk. packets_acts rules now so_far.packets talk) (λ rules talk. packet_acts rules now last.packet talk) (Some end)
+      (so_far.did service) (did_under step serve lock ring other (middle service) (later service) (λ rules talk. packet_acts rules now last.packet talk) (Some end) same (last.did short service));
   next = λ from before bytes hears.
       subst (λ form. Begins (framing_of form) (before ++ (so_far.packets ++ last.packet ∷ [])) (through from bytes)) so_far.form
       (subst (λ (all : List (List ℕ)). Begins (framing_of between.form) all (through from bytes)) (append_assoc before so_far.packets (last.packet ∷ []))

@@ -150,14 +150,14 @@ pub same_tells : (line : Line) (to : Option CtrState) (packets : List (List ℕ)
 same_tells line to packets text tells = subst (λ bytes. LineTells line to packets bytes) (sym (append-nil text)) tells
 
 fault_ends : {S V : Type 0} (step : S → ℕ × S) (serve : Step V) (lock : Lock) (ring : List RingKey) (side later : Side S V) (due : Due S V) (fault : DeskFault)
-    → later.line ≡ side.line → later.told ≡ side.told
+    → later.line ≡ side.line → later.told ≡ side.told → ((talk : Talk S V) → Stands side talk → StandsBy (Some (ends.Journal fault)) later talk)
     → Did step serve lock ring side due (Some (ends.Journal fault)) later
-fault_ends step serve lock ring side later due fault line told = record {
+fault_ends step serve lock ring side later due fault line told leaves = record {
   acts = [];
   bytes = [];
   follows = λ outside talk is stands. record {
     part = (due (rules_of step serve outside) talk, refl);
-    stands = tt;
+    stands = leaves talk stands;
     sends = λ to text tells. subst (λ some. LineTells some to talk.sent (text ++ [])) (sym line) (same_tells side.line to talk.sent text tells);
   };
   written = subst (λ some. WrittenBy None [] side.told some) (sym told) (wrote_nothing side.told);
@@ -168,7 +168,7 @@ memory_ends : {S V : Type 0} (step : S → ℕ × S) (serve : Step V) (lock : Lo
     → later.line ≡ side.line → later.told ≡ side.told
     → ((server : Server) → side.desk server → later.desk server) → later.service ≡ side.service
     → Did step serve lock ring side due (Some ends.Memory) later
-memory_ends step serve lock ring side later due line told unchanged same = record {
+memory_ends step serve lock ring side later due line told unchanged full behind same same_full = record {
   acts = [];
   bytes = [];
   follows = λ outside talk is stands. record {
@@ -180,23 +180,28 @@ memory_ends step serve lock ring side later due line told unchanged same = recor
   cut = tt;
 }
 
--- nothing came of the event, and where memory ran out the desk stands for what it stood for
+-- nothing came of the event, and where memory ran out, or there was no room, the desk stands for what it stood for
 by_fault : {S V : Type 0} (step : S → ℕ × S) (serve : Step V) (lock : Lock) (ring : List RingKey) (side later : Side S V) (due : Due S V) (fault : DeskFault)
     → later.line ≡ side.line → later.told ≡ side.told
-    → ((server : Server) → side.desk server → fault ≡ faults.Memory → later.desk server) → (fault ≡ faults.Memory → later.service ≡ side.service)
+    → ((server : Server) → side.desk server → fault ≡ faults.Memory → later.desk server) → ((server : Server) (len : ℕ) → side.desk server → fault ≡ faults.Full len → later.desk server)
+    → ((server : Server) → side.desk server → later.behind fault server)
+    → (fault ≡ faults.Memory → later.service ≡ side.service) → ((len : ℕ) → fault ≡ faults.Full len → later.service ≡ side.service)
     → Did step serve lock ring side due (Some (end_by fault)) later
-by_fault step serve lock ring side later due faults.Memory line told unchanged same =
+by_fault step serve lock ring side later due faults.Memory line told unchanged full behind same same_full =
     memory_ends step serve lock ring side later due line told (λ server stands. unchanged server stands refl) (same refl)
-by_fault step serve lock ring side later due faults.Closed line told unchanged same = fault_ends step serve lock ring side later due faults.Closed line told
-by_fault step serve lock ring side later due (faults.Full len) line told unchanged same = fault_ends step serve lock ring side later due (faults.Full len) line told
-by_fault step serve lock ring side later due faults.Disk line told unchanged same = fault_ends step serve lock ring side later due faults.Disk line told
+by_fault step serve lock ring side later due faults.Closed line told unchanged full behind same same_full = fault_ends step serve lock ring side later due faults.Closed line told (λ talk stands. (behind talk.server stands.serves.server, tt))
+by_fault step serve lock ring side later due (faults.Full len) line told unchanged full behind same same_full = fault_ends step serve lock ring side later due (faults.Full len) line told
+    (λ talk stands. (behind talk.server stands.serves.server, (full talk.server len stands.serves.server refl, same_full len refl ∙ stands.serves.service)))
+by_fault step serve lock ring side later due faults.Disk line told unchanged full behind same same_full = fault_ends step serve lock ring side later due faults.Disk line told (λ talk stands. (behind talk.server stands.serves.server, tt))
 
 pub did_fail : {S V : Type 0} (step : S → ℕ × S) (serve : Step V) (lock : Lock) (ring : List RingKey) (side later : Side S V) (due : Due S V) (fault : DeskFault) (end : ConnEnd)
     → end ≡ end_by fault → later.line ≡ side.line → later.told ≡ side.told
-    → ((server : Server) → side.desk server → fault ≡ faults.Memory → later.desk server) → (fault ≡ faults.Memory → later.service ≡ side.service)
+    → ((server : Server) → side.desk server → fault ≡ faults.Memory → later.desk server) → ((server : Server) (len : ℕ) → side.desk server → fault ≡ faults.Full len → later.desk server)
+    → ((server : Server) → side.desk server → later.behind fault server)
+    → (fault ≡ faults.Memory → later.service ≡ side.service) → ((len : ℕ) → fault ≡ faults.Full len → later.service ≡ side.service)
     → Did step serve lock ring side due (Some end) later
-did_fail step serve lock ring side later due fault end is line told unchanged same =
-    subst (λ some. Did step serve lock ring side due (Some some) later) (sym is) (by_fault step serve lock ring side later due fault line told unchanged same)
+did_fail step serve lock ring side later due fault end is line told unchanged full behind same same_full =
+    subst (λ some. Did step serve lock ring side due (Some some) later) (sym is) (by_fault step serve lock ring side later due fault line told unchanged full behind same same_full)
 
 end_is : (MayAnswer : DeskFault → Type 0) (fault : DeskFault) → MayAnswer fault → IsEventEnd MayAnswer (Some (end_by fault))
 end_is MayAnswer faults.Memory can = tt

@@ -102,7 +102,7 @@ attach_failed step serve lock ring other side middle later now wire between wire
     last_by step serve lock ring side later now wire wire_then MayAnswer end can (record {
       packet = heard.packet;
       next = λ from packets bytes hears. (heard.next from packets bytes hears).0;
-      did = first_did step serve lock ring other side middle later now wire between name (Some end) same heard attached;
+      did = λ short. first_did step serve lock ring other side middle later now wire between name (Some end) same heard attached;
     })
 
 -- the packet's own event ended the connection
@@ -111,8 +111,8 @@ heard_last : {S V : Type 0} (step : S → ℕ × S) (serve : Step V) (lock : Loc
 heard_last {S} {V} step serve lock ring side later now wire end last = record {
   packet = last.packet;
   next = last.next;
-  did = λ service. did_longer step serve lock ring (side service) (later service) (λ rules talk. Hear now last.packet ∷ []) (λ rules talk. first_acts now talk (rules.outside.reading (moment_at talk now) last.packet))
-      (λ rules talk. packet_acts rules now last.packet talk) end (λ rules talk. refl) (last.did service);
+  did = λ short service. did_longer step serve lock ring (side service) (later service) (λ rules talk. Hear now last.packet ∷ []) (λ rules talk. first_acts now talk (rules.outside.reading (moment_at talk now) last.packet))
+      (λ rules talk. packet_acts rules now last.packet talk) end (λ rules talk. refl) (last.did short service);
 }
 
 pub hear_ended : {S V : Type 0} (step : S → ℕ × S) (serve : Step V) (lock : Lock) (ring : List RingKey) (side later : Sides S V) (now : ℕ) (wire wire_then : Line) (end : ConnEnd)

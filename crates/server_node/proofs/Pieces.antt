@@ -27,6 +27,7 @@ use Rattle.server_node.proofs.Breaking.{breaks_in}
 use Rattle.server_node.proofs.Doings.{written_both}
 use Rattle.server_node.proofs.Lines.{SameForm, alike_form, faulty_by, fed_line, first_by, line_alike, owes_text, owes_then, text_of, text_on, text_then, whole_by}
 use Rattle.server_node.proofs.Reading.{passed_at, passed_wrote, told_as, told_both}
+use Rattle.server_node.proofs.Starting.{begun_short}
 use Rattle.server_node.proofs.Writing.{wrote_nothing}
 
 -- ---- the count
@@ -196,7 +197,7 @@ stands_line (ends.Frame fault) side line talk stands = record { server = stands.
 stands_line ends.Start side line talk stands = record { server = stands.server; drawn = stands.drawn; service = stands.service }
 stands_line ends.TurnsSpent side line talk stands = record { server = stands.server; drawn = stands.drawn; service = stands.service }
 stands_line ends.Stopped side line talk stands = record { server = stands.server; drawn = stands.drawn; service = stands.service }
-stands_line (ends.Journal fault) side line talk stands = tt
+stands_line (ends.Journal fault) side line talk stands = stands
 stands_line ends.Memory side line talk stands = stands
 
 unfed_stands : {S V : Type 0} (end : ConnEnd) (side : Side S V) (talk : Talk S V) → IsFeedEnd (Some end) → Stands side talk → StandsBy (Some end) side talk
@@ -307,10 +308,11 @@ piece_hearing {S} {V} step serve lock ring side later piece now wire wire_then M
     let rules : Rules S V = rules_of step serve outside in
     let here : Place S V = gets piece now place in
     let there : Place S V = hears rules now cut.packets here in
-    let did = cut.did service in
+    let framed : IsFramed wire here.came here.packets here.talk.sent bytes = subst (λ (some : Ends). IsLine some here.came here.packets here.talk.sent bytes) line_is stands.line in
+    let begins = cut.next framed.opening.up place.packets framed.rest framed.hears in
+    let did = cut.did (begun_short wire.form place.packets cut.packets cut.packet (through framed.opening.up framed.rest) begins) service in
     let one = did.follows outside here.talk is stands.talk in
     let last : Talk S V = after_acts rules there.talk did.acts in
-    let framed : IsFramed wire here.came here.packets here.talk.sent bytes = subst (λ (some : Ends). IsLine some here.came here.packets here.talk.sent bytes) line_is stands.line in
     record {
       close = Hearing piece now cut.packets cut.packet did.acts end;
       more = did.bytes;
@@ -320,8 +322,7 @@ piece_hearing {S} {V} step serve lock ring side later piece now wire wire_then M
           opening = framed.opening;
           rest = framed.rest;
           starts = framed.starts;
-          begins = subst (λ some. Begins (framing_of some) (place.packets ++ (cut.packets ++ cut.packet ∷ [])) (through framed.opening.up framed.rest)) framed.form
-              (cut.next framed.opening.up place.packets framed.rest framed.hears);
+          begins = subst (λ some. Begins (framing_of some) (place.packets ++ (cut.packets ++ cut.packet ∷ [])) (through framed.opening.up framed.rest)) framed.form begins;
         },
         cut_by MayAnswer end (packet_acts rules now cut.packet there.talk) did.acts can one.part,
         more_left (length (place.packets ++ cut.packets)) first left_then (left_both place.packets cut.packets first left left_then before cut.left_is) some,

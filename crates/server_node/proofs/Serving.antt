@@ -4,6 +4,7 @@ use Rattle.auth_keys.specs.declared.ring.RingKey.{RingKey}
 use Rattle.envelope.specs.Packet.{Lock}
 use Rattle.mt_edge.specs.Links.{Told}
 use Rattle.regs_service.specs.Served.{Step}
+use Rattle.server_core.specs.declared.desk.DeskFault.{DeskFault}
 use Rattle.server_rules.specs.Server.{Server}
 use Rattle.server_node.specs.Connection.{Gave, Passed, Place, ServerTrace, Sight, Spent, Unbegun, began, turns_from}
 use Rattle.server_node.specs.Doing.{Side, StandsBy}
@@ -31,10 +32,10 @@ answered_none : (left : Option ℕ) → left ≡ with_answered 0 left
 answered_none None = refl
 answered_none (Some left) = ap (λ (n : ℕ). Some n) (omega arith)
 
-pub turns_none : {S V : Type 0} (rules : Rules S V) (talk : Talk S V) (desk : Server → Type 0) (drawn : S) (service : V) (heard : List SessionName) (wire : List ℕ) (now : Sight)
+pub turns_none : {S V : Type 0} (rules : Rules S V) (talk : Talk S V) (desk : Server → Type 0) (behind : DeskFault → Server → Type 0) (drawn : S) (service : V) (heard : List SessionName) (wire : List ℕ) (now : Sight)
     → heard ≡ [] → wire ≡ [] → Begins desk drawn service talk
-    → TurnsSoFar rules talk now 0 (record { desk = desk; drawn = drawn; service = service; heard = heard; line = Raw wire; told = now.told }) now
-turns_none rules talk desk drawn service heard wire now none empty begins = record {
+    → TurnsSoFar rules talk now 0 (record { desk = desk; behind = behind; drawn = drawn; service = service; heard = heard; line = Raw wire; told = now.told }) now
+turns_none rules talk desk behind drawn service heard wire now none empty begins = record {
   turns = [];
   bytes = [];
   count_is = refl;
@@ -74,20 +75,20 @@ turn_more {S} {V} step serve lock ring other outside talk first count side later
 
 -- ---- how it closes
 
-leaves_by : {S V : Type 0} (end : ConnEnd) (side : Side S V) (talk : Talk S V) → StandsBy (Some end) side talk → LeavesBy end side.desk side.drawn side.service talk
+leaves_by : {S V : Type 0} (end : ConnEnd) (side : Side S V) (talk : Talk S V) → StandsBy (Some end) side talk → LeavesBy end side.desk side.behind side.drawn side.service talk
 leaves_by ends.LinkFault side talk stands = record { server = stands.server; draw = stands.drawn; served = stands.service }
 leaves_by ends.Ended side talk stands = record { server = stands.server; draw = stands.drawn; served = stands.service }
 leaves_by (ends.Frame fault) side talk stands = record { server = stands.server; draw = stands.drawn; served = stands.service }
 leaves_by ends.Start side talk stands = record { server = stands.server; draw = stands.drawn; served = stands.service }
 leaves_by ends.TurnsSpent side talk stands = record { server = stands.server; draw = stands.drawn; served = stands.service }
 leaves_by ends.Stopped side talk stands = record { server = stands.server; draw = stands.drawn; served = stands.service }
-leaves_by (ends.Journal fault) side talk stands = tt
+leaves_by (ends.Journal fault) side talk stands = stands
 leaves_by ends.Memory side talk stands = stands
 
 pub turns_ended : {S V : Type 0} (step : S → ℕ × S) (serve : Step V) (lock : Lock) (ring other : List RingKey) (outside : Outside) (talk : Talk S V) (first : Sight) (count : ℕ) (side later : Side S V) (now after : Sight) (end : ConnEnd)
     → other ≡ ring → count < turns_max → IsOutside lock ring outside → TurnsSoFar (rules_of step serve outside) talk first count side now
     → TookTurn step serve lock other side later now after (Some end)
-    → ServerTrace (rules_of step serve outside) talk first end later.desk later.drawn later.service after
+    → ServerTrace (rules_of step serve outside) talk first end later.desk later.behind later.drawn later.service after
 turns_ended {S} {V} step serve lock ring other outside talk first count side later now after end same less is so_far took =
     let rules : Rules S V = rules_of step serve outside in
     let here : Place S V = turns_from rules (began talk) so_far.turns in
@@ -111,7 +112,7 @@ turns_ended {S} {V} step serve lock ring other outside talk first count side lat
 
 -- it gave as many pieces as it may
 pub turns_spent : {S V : Type 0} (rules : Rules S V) (talk : Talk S V) (first : Sight) (count : ℕ) (side : Side S V) (now : Sight)
-    → count ≡ turns_max → TurnsSoFar rules talk first count side now → ServerTrace rules talk first ends.TurnsSpent side.desk side.drawn side.service now
+    → count ≡ turns_max → TurnsSoFar rules talk first count side now → ServerTrace rules talk first ends.TurnsSpent side.desk side.behind side.drawn side.service now
 turns_spent {S} {V} rules talk first count side now most so_far =
     let here : Place S V = turns_from rules (began talk) so_far.turns in
     record {
@@ -131,9 +132,9 @@ turns_spent {S} {V} rules talk first count side now most so_far =
     }
 
 -- nothing was read for want of memory
-pub trace_unbegun : {S V : Type 0} (rules : Rules S V) (talk : Talk S V) (desk : Server → Type 0) (drawn : S) (service : V) (now : Sight) → Begins desk drawn service talk
-    → ServerTrace rules talk now ends.Memory desk drawn service now
-trace_unbegun rules talk desk drawn service now begins = record {
+pub trace_unbegun : {S V : Type 0} (rules : Rules S V) (talk : Talk S V) (desk : Server → Type 0) (behind : DeskFault → Server → Type 0) (drawn : S) (service : V) (now : Sight) → Begins desk drawn service talk
+    → ServerTrace rules talk now ends.Memory desk behind drawn service now
+trace_unbegun rules talk desk behind drawn service now begins = record {
   turns = [];
   close = Unbegun;
   bytes = [];

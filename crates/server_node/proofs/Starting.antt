@@ -1,5 +1,5 @@
 -- The bytes that come behind a start, and how many packets they may be.
-use Rattle.std.proofs.Common.{◌≡◌, ◌≤◌, ◌<◌, ◌+◌, ℕ, suc, true, List, [], ◌∷◌, ◌++◌, length, take, drop, append_assoc, length-append, length-drop, inl, inr, None, Some, Option, refl, sym, ap, ap₂, ◌∙◌, arith}
+use Rattle.std.proofs.Common.{◌≡◌, ◌≤◌, ◌<◌, ◌+◌, ℕ, suc, true, List, [], ◌∷◌, ◌++◌, length, take, drop, append_assoc, length-append, length-drop, inl, inr, None, Some, Option, refl, sym, subst, ap, ap₂, ◌∙◌, arith}
 use Rattle.std.specs.Prelude.{◌||◌, Bool, MatchOption, nat_eq, replicate}
 use Rattle.std.specs.List.{starts_with}
 use Rattle.std.proofs.lemmas.List.{drop-append-le, take-append-drop, take-append-le}
@@ -8,6 +8,7 @@ use Rattle.cipher_modes.specs.CounterMode.{CtrState, xor_stream}
 use Rattle.framing.specs.Holding.{IsBehind}
 use Rattle.framing.specs.Streams.{Begins, Faulty, Form, Frame, Frames}
 use Rattle.obfus.specs.Starts.{abridged_start, begins_full, begins_plain, intermediate_start, padded_start}
+use Rattle.server_core.specs.Desks.{frame_bytes_max}
 use Rattle.tl_codec.specs.declared.fault.FrameFault.{FrameFault}
 use Rattle.transport.specs.Directions.{through}
 use Rattle.transport.specs.Forms.{framing_of}
@@ -111,3 +112,21 @@ pub packets_fit : (wire : Line) (from : Option CtrState) (packets : List (List �
 packets_fit wire from packets bytes hears =
     let begins = begins_heard wire from packets bytes hears in
     omega (arith, frames_fit wire.form 0 packets begins.frames begins.each, ap length begins.whole, length-append begins.frames begins.rest, length_through from bytes)
+
+-- ---- a packet of a frame is short
+
+payload_fits : (form : forms_of.Form) (i : ℕ) (packet bytes : List ℕ) → Frame (framing_of form) i packet bytes → length packet ≤ frame_bytes_max
+payload_fits forms.Abridged i packet bytes frame = frame.payload.most
+payload_fits forms.Intermediate i packet bytes frame = frame.payload.most
+payload_fits forms.Padded i packet bytes frame = frame.payload.most
+payload_fits forms.Full i packet bytes frame = frame.payload.most
+
+last_short : (form : forms_of.Form) (count : ℕ) (earlier : List (List ℕ)) (packet bytes : List ℕ) → Frames (framing_of form) count (earlier ++ packet ∷ []) bytes → length packet ≤ frame_bytes_max
+last_short form count [] packet bytes (front, back, frame, frames, whole) = payload_fits form _ packet front frame
+last_short form count (one ∷ earlier) packet bytes (front, back, frame, frames, whole) = last_short form (count + 1) earlier packet back frames
+
+-- and so is one that comes behind others
+pub begun_short : (form : forms_of.Form) (earlier packets : List (List ℕ)) (packet bytes : List ℕ) → Begins (framing_of form) (earlier ++ (packets ++ packet ∷ [])) bytes → length packet ≤ frame_bytes_max
+begun_short form earlier packets packet bytes begins =
+    last_short form 0 (earlier ++ packets) packet begins.frames
+    (subst (λ (all : List (List ℕ)). Frames (framing_of form) 0 all begins.frames) (sym (append_assoc earlier packets (packet ∷ []))) begins.each)

@@ -1,5 +1,5 @@
 -- What comes over a line, and what a desk and a link make of it: scaffolding of proofs, and no promise.
-use Rattle.std.specs.Prelude.{◌≡◌, ◌⊎◌, ⊤, length, ℕ, max, not, Bool, true, false, IfOk, OnOk, List, [], ◌∷◌, ◌++◌, Option, Some, None, Result, Ok, Err}
+use Rattle.std.specs.Prelude.{◌≡◌, ◌≤◌, ◌⊎◌, ⊤, length, ℕ, max, not, Bool, true, false, IfOk, OnOk, List, [], ◌∷◌, ◌++◌, Option, Some, None, Result, Ok, Err}
 use Rattle.auth_keys.specs.declared.ring.RingKey.{RingKey}
 use Rattle.cipher_modes.specs.CounterMode.{CtrState}
 use Rattle.envelope.specs.Packet.{Lock}
@@ -19,7 +19,7 @@ use Rattle.envelope.specs.declared.refusal.Refusal.TheVariants as refusals
 use Rattle.octets.specs.Bytes.{IsBytes}
 use Rattle.server_output.specs.declared.outs.Out.{Out}
 use Rattle.server_dispatch.specs.Rings.{AreOf}
-use Rattle.server_core.specs.Desks.{Does, DoesNothing}
+use Rattle.server_core.specs.Desks.{Does, DoesNothing, frame_bytes_max}
 use Rattle.server_core.specs.Packets.{IsHeardOf, brought_in, effects_in}
 use Rattle.server_core.specs.declared.desk.DeskFault.{DeskFault}
 use Rattle.server_core.specs.declared.desk.DeskFault.TheVariants as faults
@@ -89,21 +89,23 @@ pub record TellsNext {S : Type 0} (step : S → ℕ × S) (lock : Lock) (ring : 
   pub tells : Tells step lock ring desk desk_then drawn drawn_then now packet reply
 
 -- nothing came of the next packet
-pub record FailsNext (wire : Line) (desk desk_then : Server → Type 0) (end : ConnEnd) : Type 0 where
+pub record FailsNext (wire : Line) (desk desk_then : Server → Type 0) (behind_then : DeskFault → Server → Type 0) (end : ConnEnd) : Type 0 where
   pub packet : List ℕ
   pub next : HasNext wire packet
   pub fault : DeskFault
   pub is : end ≡ end_by fault
   pub unchanged : (server : Server) → desk server → fault ≡ faults.Memory → desk_then server
+  pub full : (server : Server) (len : ℕ) → desk server → fault ≡ faults.Full len → desk_then server
+  pub behind : (server : Server) → desk server → length packet ≤ frame_bytes_max → behind_then fault server
 
 abbrev pub IsSameDesk : {S : Type 0} → (Server → Type 0) → S → (Server → Type 0) → S → Type 0
 IsSameDesk desk drawn desk_then drawn_then = ((server : Server) → desk server → desk_then server) × (drawn_then ≡ drawn)
 
-abbrev pub NextBy : {S : Type 0} → (S → ℕ × S) → Lock → List RingKey → (Server → Type 0) → S → ℕ → Line → Result (Option Reply) ConnEnd → (Server → Type 0) → S → Line → Type 0
-NextBy step lock ring desk drawn now wire (Ok (Some reply)) desk_then drawn_then wire_then = TellsNext step lock ring desk drawn now wire reply desk_then drawn_then wire_then
-NextBy step lock ring desk drawn now wire (Ok None) desk_then drawn_then wire_then = IsIdle wire wire_then × IsSameDesk desk drawn desk_then drawn_then
-NextBy step lock ring desk drawn now wire (Err (ends.Frame fault)) desk_then drawn_then wire_then = IsFaulty wire fault × IsSameDesk desk drawn desk_then drawn_then
-NextBy step lock ring desk drawn now wire (Err end) desk_then drawn_then wire_then = FailsNext wire desk desk_then end
+abbrev pub NextBy : {S : Type 0} → (S → ℕ × S) → Lock → List RingKey → (Server → Type 0) → S → ℕ → Line → Result (Option Reply) ConnEnd → (Server → Type 0) → (DeskFault → Server → Type 0) → S → Line → Type 0
+NextBy step lock ring desk drawn now wire (Ok (Some reply)) desk_then behind_then drawn_then wire_then = TellsNext step lock ring desk drawn now wire reply desk_then drawn_then wire_then
+NextBy step lock ring desk drawn now wire (Ok None) desk_then behind_then drawn_then wire_then = IsIdle wire wire_then × IsSameDesk desk drawn desk_then drawn_then
+NextBy step lock ring desk drawn now wire (Err (ends.Frame fault)) desk_then behind_then drawn_then wire_then = IsFaulty wire fault × IsSameDesk desk drawn desk_then drawn_then
+NextBy step lock ring desk drawn now wire (Err end) desk_then behind_then drawn_then wire_then = FailsNext wire desk desk_then behind_then end
 
 -- ---- what is sent of it
 
@@ -149,11 +151,11 @@ pub record HeardOne {S V : Type 0} (step : S → ℕ × S) (serve : Step V) (loc
   pub first : (service : V) (outside : Outside) (talk : Talk S V) → IsOutside lock ring outside → Stands (side service) talk
       → first_acts now talk (outside.reading (moment_at talk now) packet) ≡ acts
 
--- A packet came whose event ended the connection.
+-- A packet came whose event ended the connection. A packet of a frame is short, as is known of one that comes behind others.
 pub record HeardLast {S V : Type 0} (step : S → ℕ × S) (serve : Step V) (lock : Lock) (ring : List RingKey) (side : Sides S V) (now : ℕ) (wire : Line) (end : ConnEnd) (later : Sides S V) : Type 0 where
   pub packet : List ℕ
   pub next : HasNext wire packet
-  pub did : (service : V) → Did step serve lock ring (side service) (λ rules talk. Hear now packet ∷ []) (Some end) (later service)
+  pub did : length packet ≤ frame_bytes_max → (service : V) → Did step serve lock ring (side service) (λ rules talk. Hear now packet ∷ []) (Some end) (later service)
 
 -- what came next
 abbrev pub CameBy : {S V : Type 0} → (S → ℕ × S) → Step V → Lock → List RingKey → Sides S V → ℕ → Line → Line → Result Came ConnEnd → Sides S V → Type 0
@@ -173,7 +175,7 @@ pub record TookOne {S V : Type 0} (step : S → ℕ × S) (serve : Step V) (lock
 pub record TookLast {S V : Type 0} (step : S → ℕ × S) (serve : Step V) (lock : Lock) (ring : List RingKey) (side : Sides S V) (now : ℕ) (wire : Line) (end : ConnEnd) (later : Sides S V) : Type 0 where
   pub packet : List ℕ
   pub next : HasNext wire packet
-  pub did : (service : V) → Did step serve lock ring (side service) (λ rules talk. packet_acts rules now packet talk) (Some end) (later service)
+  pub did : length packet ≤ frame_bytes_max → (service : V) → Did step serve lock ring (side service) (λ rules talk. packet_acts rules now packet talk) (Some end) (later service)
 
 abbrev pub TookBy : {S V : Type 0} → (S → ℕ × S) → Step V → Lock → List RingKey → Sides S V → ℕ → Line → Line → Result Bool ConnEnd → Sides S V → Type 0
 TookBy step serve lock ring side now wire wire_then (Ok true) later = TookOne step serve lock ring side now wire wire_then later
@@ -209,7 +211,7 @@ pub record AllCame {S V : Type 0} (step : S → ℕ × S) (serve : Step V) (lock
 pub record AllCut {S V : Type 0} (step : S → ℕ × S) (serve : Step V) (lock : Lock) (ring : List RingKey) (side : Sides S V) (now : ℕ) (wire : Line) (left left_then : Option ℕ) (end : ConnEnd) (later : Sides S V) : Type 0 where
   pub packets : List (List ℕ)
   pub packet : List ℕ
-  pub did : (service : V) → DidThen step serve lock ring (side service) (λ rules talk. packets_acts rules now packets talk) (λ rules talk. packet_acts rules now packet talk) (Some end) (later service)
+  pub did : length packet ≤ frame_bytes_max → (service : V) → DidThen step serve lock ring (side service) (λ rules talk. packets_acts rules now packets talk) (λ rules talk. packet_acts rules now packet talk) (Some end) (later service)
   pub next : (from : Option CtrState) (before : List (List ℕ)) (bytes : List ℕ) → Hears wire from before bytes → Begins (framing_of wire.form) (before ++ (packets ++ packet ∷ [])) (through from bytes)
   pub left_is : left ≡ with_answered (length packets) left_then
 

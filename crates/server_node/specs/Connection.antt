@@ -10,6 +10,7 @@ use Rattle.tl_codec.specs.declared.fault.FrameFault.{FrameFault}
 use Rattle.transport.specs.Directions.{through}
 use Rattle.transport.specs.Forms.{framing_of}
 use Rattle.transport.specs.Starts.{IsAwaited, IsRefused, Opening, Starts}
+use Rattle.server_core.specs.declared.desk.DeskFault.{DeskFault}
 use Rattle.server_rules.specs.Server.{Server}
 use Rattle.waits.specs.Jobs.{ready_count}
 use Rattle.server_node.specs.Frames.{AreFramesOf}
@@ -353,7 +354,7 @@ place_after rules talk turns close = closes rules close (turns_from rules (began
 -- What a connection did that ended so: the turns, and how it closed behind them; the bytes that they owe. By these the server,
 -- the draw and the service, the bytes written, the reads, the moments, and the packets that may still be answered are what they
 -- are afterwards.
-pub record ServerTrace {S V : Type 0} (rules : Rules S V) (talk : Talk S V) (before : Sight) (end : ConnEnd) (desk : Server → Type 0) (drawn : S) (service : V) (after : Sight) : Type 0 where
+pub record ServerTrace {S V : Type 0} (rules : Rules S V) (talk : Talk S V) (before : Sight) (end : ConnEnd) (desk : Server → Type 0) (behind_fault : DeskFault → Server → Type 0) (drawn : S) (service : V) (after : Sight) : Type 0 where
   pub turns : List Turn
   pub close : Close
   pub bytes : List ℕ
@@ -361,7 +362,7 @@ pub record ServerTrace {S V : Type 0} (rules : Rules S V) (talk : Talk S V) (bef
   pub closed : ClosesSo rules before.left (turns_from rules (began talk) turns) close
   pub behind : ClosesBehind (length turns) close
   pub ended : end_by close ≡ end
-  pub leaves : LeavesBy end desk drawn service (place_after rules talk turns close).talk
+  pub leaves : LeavesBy end desk behind_fault drawn service (place_after rules talk turns close).talk
   pub owes : OwesBy end (place_after rules talk turns close).came (place_after rules talk turns close).talk.sent bytes
   pub shows : IfSome after.told (λ last. IsSomeAnd before.told (λ first. ShowsClose close bytes (place_after rules talk turns close) first last))
   pub breaks : BreaksBy rules close (turns_from rules (began talk) turns) bytes before.told after.told

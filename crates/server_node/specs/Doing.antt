@@ -9,6 +9,7 @@ use Rattle.server_rules.specs.Server.{Server}
 use Rattle.server_core.specs.declared.desk.DeskFault.{DeskFault}
 use Rattle.server_core.specs.declared.desk.DeskFault.TheVariants as faults
 use Rattle.server_node.specs.Connection.{IsIdle}
+use Rattle.server_node.specs.Served.{IfFull}
 use Rattle.server_node.specs.Steps.{IsQuiet, LineFrames, LineTells, SentBy}
 use Rattle.server_node.specs.Trace.{rules_of, Act, IsOutside, Outside, Rules, Talk, after_acts, work_acts}
 use Rattle.server_node.specs.Writes.{WrittenBy, WroteFront}
@@ -17,10 +18,11 @@ use Rattle.server_node.specs.declared.conn.ConnEnd.TheVariants as ends
 use Rattle.server_core.specs.declared.session_name.SessionName.{SessionName}
 use Rattle.server_node.specs.declared.line.Line.{Line}
 
--- where a connection stands: the servers that its desk stands for, its draw, the service, the sessions that were heard, the
+-- where a connection stands: the servers that its desk stands for, and for which it is behind a fault of it, its draw, the service, the sessions that were heard, the
 -- line, and what the link tells
 pub record Side (S V : Type 0) : Type 1 where
   pub desk : Server → Type 0
+  pub behind : DeskFault → Server → Type 0
   pub drawn : S
   pub service : V
   pub heard : List SessionName
@@ -40,11 +42,11 @@ pub record Stands {S V : Type 0} (side : Side S V) (talk : Talk S V) : Type 0 wh
   pub quiet : IsQuiet side.line side.heard
 
 -- Where the connection ended its desk and service are still those of the talk, but words may have been drawn in vain where
--- memory ran out. After another fault of the desk nothing is known of it.
+-- memory ran out, or the desk had no room. Behind another fault of the desk it is what that says of it.
 abbrev pub StandsBy : {S V : Type 0} → Option ConnEnd → Side S V → Talk S V → Type 0
 StandsBy None side talk = Stands side talk
 StandsBy (Some ends.Memory) side talk = side.desk talk.server × (side.service ≡ talk.service)
-StandsBy (Some (ends.Journal fault)) side talk = ⊤
+StandsBy (Some (ends.Journal fault)) side talk = side.behind fault talk.server × IfFull fault (side.desk talk.server × (side.service ≡ talk.service))
 StandsBy (Some ends.LinkFault) side talk = Serves side talk
 StandsBy (Some ends.Ended) side talk = Serves side talk
 StandsBy (Some (ends.Frame fault)) side talk = Serves side talk

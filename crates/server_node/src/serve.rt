@@ -45,14 +45,14 @@ fn take_whole<L: Link, K: Desk, V: Service>(
 ) -> Result<(), ConnEnd>
     requires some { left.old ≢ Some 0 }
     ensures took { TookWhole K.D.step V.step K.S.lock (K.keys desk.old)
-        (λ (service : V). record { desk = K.StandsFor desk.old; drawn = K.drawn desk.old; service = service; heard = heard.old; line = line.old; told = L.told link.old })
+        (λ (service : V). record { desk = K.StandsFor desk.old; behind = K.Behind desk.old; drawn = K.drawn desk.old; service = service; heard = heard.old; line = line.old; told = L.told link.old })
         now line.old line.new left.old left.new (end_in result)
-        (λ (service : V). record { desk = K.StandsFor desk.new; drawn = K.drawn desk.new; service = service; heard = heard.new; line = line.new; told = L.told link.new }) }
+        (λ (service : V). record { desk = K.StandsFor desk.new; behind = K.Behind desk.new; drawn = K.drawn desk.new; service = service; heard = heard.new; line = line.new; told = L.told link.new }) }
     ensures goes { Goes (end_in result) (L.standing link.old) (L.faults link.old) (L.told link.old) (L.standing link.new) (L.faults link.new) (L.told link.new) }
     ensures ends { IsPacketsEnd K.MayAnswer (end_in result) }
     ensures left { Answered (end_in result) left.old left.new }
     ensures same_keys { K.keys desk.new ≡ K.keys desk.old }
-    ensures same_reference { K.draw_name desk.new ≡ K.draw_name desk.old }
+    ensures same_binding { K.bound_to desk.new ≡ K.bound_to desk.old }
     ensures desk_counted { CountsDesk (end_in result) (K.fault_count desk.old) (K.fault_count desk.new) }
 {
     match line {
@@ -79,14 +79,14 @@ fn take_piece<L: Link, K: Desk, V: Service>(
 ) -> Result<Line, ConnEnd>
     requires some { left.old ≢ Some 0 }
     ensures took { TookPiece K.D.step V.step K.S.lock (K.keys desk.old) piece.now now
-        (record { desk = K.StandsFor desk.old; drawn = K.drawn desk.old; service = service.old; heard = heard.old; line = line; told = L.told link.old })
-        (record { desk = K.StandsFor desk.new; drawn = K.drawn desk.new; service = service.new; heard = heard.new; line = line_in result; told = L.told link.new })
+        (record { desk = K.StandsFor desk.old; behind = K.Behind desk.old; drawn = K.drawn desk.old; service = service.old; heard = heard.old; line = line; told = L.told link.old })
+        (record { desk = K.StandsFor desk.new; behind = K.Behind desk.new; drawn = K.drawn desk.new; service = service.new; heard = heard.new; line = line_in result; told = L.told link.new })
         left.old left.new (end_in result) }
     ensures goes { Goes (end_in result) (L.standing link.old) (L.faults link.old) (L.told link.old) (L.standing link.new) (L.faults link.new) (L.told link.new) }
     ensures ends { IsPieceEnd K.MayAnswer (end_in result) }
     ensures left { Answered (end_in result) left.old left.new }
     ensures same_keys { K.keys desk.new ≡ K.keys desk.old }
-    ensures same_reference { K.draw_name desk.new ≡ K.draw_name desk.old }
+    ensures same_binding { K.bound_to desk.new ≡ K.bound_to desk.old }
     ensures desk_counted { CountsDesk (end_in result) (K.fault_count desk.old) (K.fault_count desk.new) }
 {
     let mut line = match feed(line, alloc, piece) {
@@ -119,8 +119,8 @@ fn take_turn<L: Link, K: Desk, V: Service, C: Clock>(
     requires room { length into.old ≡ 65536 }
     requires some { left.old ≢ Some 0 }
     ensures took { TookTurn K.D.step V.step K.S.lock (K.keys desk.old)
-        (record { desk = K.StandsFor desk.old; drawn = K.drawn desk.old; service = service.old; heard = heard.old; line = line; told = L.told link.old })
-        (record { desk = K.StandsFor desk.new; drawn = K.drawn desk.new; service = service.new; heard = heard.new; line = line_in result; told = L.told link.new })
+        (record { desk = K.StandsFor desk.old; behind = K.Behind desk.old; drawn = K.drawn desk.old; service = service.old; heard = heard.old; line = line; told = L.told link.old })
+        (record { desk = K.StandsFor desk.new; behind = K.Behind desk.new; drawn = K.drawn desk.new; service = service.new; heard = heard.new; line = line_in result; told = L.told link.new })
         (record { told = L.told link.old; given = C.given clock.old; left = left.old }) (record { told = L.told link.new; given = C.given clock.new; left = left.new }) (end_in result) }
     ensures turned { IfSome (L.told link.new) (λ after. IsSomeAnd (L.told link.old) (λ before. Turned (end_in result) (length into.new) before after)) }
     ensures same_standing { L.standing link.new ≡ L.standing link.old }
@@ -129,7 +129,7 @@ fn take_turn<L: Link, K: Desk, V: Service, C: Clock>(
     ensures ends { IsTurnEnd K.MayAnswer (end_in result) }
     ensures left { Answered (end_in result) left.old left.new }
     ensures same_keys { K.keys desk.new ≡ K.keys desk.old }
-    ensures same_reference { K.draw_name desk.new ≡ K.draw_name desk.old }
+    ensures same_binding { K.bound_to desk.new ≡ K.bound_to desk.old }
     ensures desk_counted { CountsDesk (end_in result) (K.fault_count desk.old) (K.fault_count desk.new) }
 {
     match link.read(into) {
@@ -160,7 +160,7 @@ fn take_turns<L: Link, K: Desk, V: Service, C: Clock>(
     requires some { left.old ≢ Some 0 }
     ensures trace { (outside : Outside) (talk : Talk K.D V) → IsOutside K.S.lock (K.keys desk.old) outside → Begins (K.StandsFor desk.old) (K.drawn desk.old) service.old talk
         → ServerTrace (rules_of K.D.step V.step outside) talk (record { told = L.told link.old; given = C.given clock.old; left = left.old }) result
-        (K.StandsFor desk.new) (K.drawn desk.new) service.new (record { told = L.told link.new; given = C.given clock.new; left = left.new }) }
+        (K.StandsFor desk.new) (K.Behind desk.new) (K.drawn desk.new) service.new (record { told = L.told link.new; given = C.given clock.new; left = left.new }) }
     ensures record { IfSome (L.told link.new) (λ after. IsSomeAnd (L.told link.old) (λ before. ReadTo result before after)) }
     ensures same_standing { L.standing link.new ≡ L.standing link.old }
     ensures counted { CountsBy (Some result) (L.faults link.old) (L.faults link.new) }
@@ -168,7 +168,7 @@ fn take_turns<L: Link, K: Desk, V: Service, C: Clock>(
     ensures left { Answered (Some result) left.old left.new }
     ensures journal { (fault : DeskFault) → result ≡ ConnEnd.Journal fault → K.MayAnswer fault × (fault ≢ faults.Memory) }
     ensures same_keys { K.keys desk.new ≡ K.keys desk.old }
-    ensures same_reference { K.draw_name desk.new ≡ K.draw_name desk.old }
+    ensures same_binding { K.bound_to desk.new ≡ K.bound_to desk.old }
     ensures desk_counted { CountsDesk (Some result) (K.fault_count desk.old) (K.fault_count desk.new) }
 {
     let mut heard = HeardSessions::new(alloc);
@@ -202,7 +202,7 @@ pub fn serve_one<L: Link, K: Desk, V: Service, C: Clock>(
     // server, the draw and the service, the bytes written, the reads, the moments and the count are what they are.
     ensures trace { (outside : Outside) (talk : Talk K.D V) → IsOutside K.S.lock (K.keys desk.old) outside → Begins (K.StandsFor desk.old) (K.drawn desk.old) service.old talk
         → ServerTrace (rules_of K.D.step V.step outside) talk (record { told = L.told conn; given = C.given clock.old; left = left.old }) result.1
-        (K.StandsFor desk.new) (K.drawn desk.new) service.new (record { told = L.told result.0; given = C.given clock.new; left = left.new }) }
+        (K.StandsFor desk.new) (K.Behind desk.new) (K.drawn desk.new) service.new (record { told = L.told result.0; given = C.given clock.new; left = left.new }) }
     // What was read: pieces, each into 65,536 bytes of room, and the read that ended it, if one did.
     ensures record { IfSome (L.told result.0) (λ after. IsSomeAnd (L.told conn) (λ before. ReadTo result.1 before after)) }
     // The link is in its place, and the call doesn't close it.
@@ -214,7 +214,7 @@ pub fn serve_one<L: Link, K: Desk, V: Service, C: Clock>(
     ensures left { Answered (Some result.1) left.old left.new }
     ensures journal { (fault : DeskFault) → result.1 ≡ ConnEnd.Journal fault → K.MayAnswer fault × (fault ≢ faults.Memory) }
     ensures same_keys { K.keys desk.new ≡ K.keys desk.old }
-    ensures same_reference { K.draw_name desk.new ≡ K.draw_name desk.old }
+    ensures same_binding { K.bound_to desk.new ≡ K.bound_to desk.old }
     // The count of the faults of what the desk keeps its events on rose where it ended by one, and else it is the same.
     ensures desk_counted { CountsDesk (Some result.1) (K.fault_count desk.old) (K.fault_count desk.new) }
 {

@@ -46,14 +46,14 @@ fn attach<L: Link, K: Desk, V: Service>(
     text: &mut Octets,
 ) -> Result<(), ConnEnd>
     ensures did { (service : V) → Did K.D.step V.step K.S.lock (K.keys desk.old)
-        (record { desk = K.StandsFor desk.old; drawn = K.drawn desk.old; service = service; heard = heard.now; line = Line.Framed wire.old; told = L.told link.old })
+        (record { desk = K.StandsFor desk.old; behind = K.Behind desk.old; drawn = K.drawn desk.old; service = service; heard = heard.now; line = Line.Framed wire.old; told = L.told link.old })
         (λ rules talk. Attach now name ∷ []) (end_in result)
-        (record { desk = K.StandsFor desk.new; drawn = K.drawn desk.new; service = service; heard = heard.now; line = Line.Framed wire.new; told = L.told link.new }) }
+        (record { desk = K.StandsFor desk.new; behind = K.Behind desk.new; drawn = K.drawn desk.new; service = service; heard = heard.now; line = Line.Framed wire.new; told = L.told link.new }) }
     ensures goes { Goes (end_in result) (L.standing link.old) (L.faults link.old) (L.told link.old) (L.standing link.new) (L.faults link.new) (L.told link.new) }
     ensures ends { IsEventEnd K.MayAnswer (end_in result) }
     ensures same_in { IsSameIn wire.old wire.new }
     ensures same_keys { K.keys desk.new ≡ K.keys desk.old }
-    ensures same_reference { K.draw_name desk.new ≡ K.draw_name desk.old }
+    ensures same_binding { K.bound_to desk.new ≡ K.bound_to desk.old }
     ensures desk_counted { CountsDesk (end_in result) (K.fault_count desk.old) (K.fault_count desk.new) }
 {
     opens_what_it_sealed::<K::S>();
@@ -87,12 +87,12 @@ fn take_next<K: Desk>(
     now: Moment,
     wire: &mut Wire<Framed>,
 ) -> Result<Option<Reply>, ConnEnd>
-    ensures next { NextBy K.D.step K.S.lock (K.keys desk.old) (K.StandsFor desk.old) (K.drawn desk.old) now wire.old result (K.StandsFor desk.new) (K.drawn desk.new) wire.new }
+    ensures next { NextBy K.D.step K.S.lock (K.keys desk.old) (K.StandsFor desk.old) (K.drawn desk.old) now wire.old result (K.StandsFor desk.new) (K.Behind desk.new) (K.drawn desk.new) wire.new }
     ensures same_out { SameOut wire.old wire.new }
     ensures ends { IsPacketEnd K.MayAnswer (end_in result) }
     ensures no_fault { IfErr result (λ end. end ≢ ConnEnd.LinkFault) }
     ensures same_keys { K.keys desk.new ≡ K.keys desk.old }
-    ensures same_reference { K.draw_name desk.new ≡ K.draw_name desk.old }
+    ensures same_binding { K.bound_to desk.new ≡ K.bound_to desk.old }
     ensures desk_counted { CountsDesk (end_in result) (K.fault_count desk.old) (K.fault_count desk.new) }
 {
     match wire.next() {
@@ -167,14 +167,14 @@ fn hear<L: Link, K: Desk, V: Service>(
     text: &mut Octets,
 ) -> Result<Came, ConnEnd>
     ensures came { CameBy K.D.step V.step K.S.lock (K.keys desk.old)
-        (λ (service : V). record { desk = K.StandsFor desk.old; drawn = K.drawn desk.old; service = service; heard = heard.old; line = Line.Framed wire.old; told = L.told link.old })
+        (λ (service : V). record { desk = K.StandsFor desk.old; behind = K.Behind desk.old; drawn = K.drawn desk.old; service = service; heard = heard.old; line = Line.Framed wire.old; told = L.told link.old })
         now wire.old wire.new result
-        (λ (service : V). record { desk = K.StandsFor desk.new; drawn = K.drawn desk.new; service = service; heard = heard.new; line = Line.Framed wire.new; told = L.told link.new }) }
+        (λ (service : V). record { desk = K.StandsFor desk.new; behind = K.Behind desk.new; drawn = K.drawn desk.new; service = service; heard = heard.new; line = Line.Framed wire.new; told = L.told link.new }) }
     ensures goes { Goes (end_in result) (L.standing link.old) (L.faults link.old) (L.told link.old) (L.standing link.new) (L.faults link.new) (L.told link.new) }
     ensures ends { IsPacketEnd K.MayAnswer (end_in result) }
     ensures same_form { wire.new.form ≡ wire.old.form }
     ensures same_keys { K.keys desk.new ≡ K.keys desk.old }
-    ensures same_reference { K.draw_name desk.new ≡ K.draw_name desk.old }
+    ensures same_binding { K.bound_to desk.new ≡ K.bound_to desk.old }
     ensures desk_counted { CountsDesk (end_in result) (K.fault_count desk.old) (K.fault_count desk.new) }
 {
     opens_what_it_sealed::<K::S>();
@@ -199,14 +199,14 @@ fn take_packet<L: Link, K: Desk, V: Service>(
     text: &mut Octets,
 ) -> Result<bool, ConnEnd>
     ensures took { TookBy K.D.step V.step K.S.lock (K.keys desk.old)
-        (λ (service : V). record { desk = K.StandsFor desk.old; drawn = K.drawn desk.old; service = service; heard = heard.old; line = Line.Framed wire.old; told = L.told link.old })
+        (λ (service : V). record { desk = K.StandsFor desk.old; behind = K.Behind desk.old; drawn = K.drawn desk.old; service = service; heard = heard.old; line = Line.Framed wire.old; told = L.told link.old })
         now wire.old wire.new result
-        (λ (service : V). record { desk = K.StandsFor desk.new; drawn = K.drawn desk.new; service = service; heard = heard.new; line = Line.Framed wire.new; told = L.told link.new }) }
+        (λ (service : V). record { desk = K.StandsFor desk.new; behind = K.Behind desk.new; drawn = K.drawn desk.new; service = service; heard = heard.new; line = Line.Framed wire.new; told = L.told link.new }) }
     ensures goes { Goes (end_in result) (L.standing link.old) (L.faults link.old) (L.told link.old) (L.standing link.new) (L.faults link.new) (L.told link.new) }
     ensures ends { IsPacketEnd K.MayAnswer (end_in result) }
     ensures same_form { wire.new.form ≡ wire.old.form }
     ensures same_keys { K.keys desk.new ≡ K.keys desk.old }
-    ensures same_reference { K.draw_name desk.new ≡ K.draw_name desk.old }
+    ensures same_binding { K.bound_to desk.new ≡ K.bound_to desk.old }
     ensures desk_counted { CountsDesk (end_in result) (K.fault_count desk.old) (K.fault_count desk.new) }
 {
     match hear::<L, K, V>(alloc, desk, now, wire, link, heard, text) {
@@ -261,15 +261,15 @@ pub(crate) fn take_packets<L: Link, K: Desk, V: Service>(
 ) -> Result<(), ConnEnd>
     requires some { left.old ≢ Some 0 }
     ensures took { TookAll K.D.step V.step K.S.lock (K.keys desk.old)
-        (λ (service : V). record { desk = K.StandsFor desk.old; drawn = K.drawn desk.old; service = service; heard = heard.old; line = Line.Framed wire.old; told = L.told link.old })
+        (λ (service : V). record { desk = K.StandsFor desk.old; behind = K.Behind desk.old; drawn = K.drawn desk.old; service = service; heard = heard.old; line = Line.Framed wire.old; told = L.told link.old })
         now wire.old wire.new left.old left.new (end_in result)
-        (λ (service : V). record { desk = K.StandsFor desk.new; drawn = K.drawn desk.new; service = service; heard = heard.new; line = Line.Framed wire.new; told = L.told link.new }) }
+        (λ (service : V). record { desk = K.StandsFor desk.new; behind = K.Behind desk.new; drawn = K.drawn desk.new; service = service; heard = heard.new; line = Line.Framed wire.new; told = L.told link.new }) }
     ensures goes { Goes (end_in result) (L.standing link.old) (L.faults link.old) (L.told link.old) (L.standing link.new) (L.faults link.new) (L.told link.new) }
     ensures ends { IsPacketsEnd K.MayAnswer (end_in result) }
     ensures left { Answered (end_in result) left.old left.new }
     ensures same_form { wire.new.form ≡ wire.old.form }
     ensures same_keys { K.keys desk.new ≡ K.keys desk.old }
-    ensures same_reference { K.draw_name desk.new ≡ K.draw_name desk.old }
+    ensures same_binding { K.bound_to desk.new ≡ K.bound_to desk.old }
     ensures desk_counted { CountsDesk (end_in result) (K.fault_count desk.old) (K.fault_count desk.new) }
 {
     'packets: for _count in 0..PACKETS_MAX {

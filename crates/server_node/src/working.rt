@@ -32,14 +32,14 @@ fn tick<L: Link, K: Desk, V: Service>(
     text: &mut Octets,
 ) -> Result<(), ConnEnd>
     ensures did { (service : V) → Did K.D.step V.step K.S.lock (K.keys desk.old)
-        (record { desk = K.StandsFor desk.old; drawn = K.drawn desk.old; service = service; heard = heard.now; line = line.old; told = L.told link.old })
+        (record { desk = K.StandsFor desk.old; behind = K.Behind desk.old; drawn = K.drawn desk.old; service = service; heard = heard.now; line = line.old; told = L.told link.old })
         (λ rules talk. Tick now ∷ []) (end_in result)
-        (record { desk = K.StandsFor desk.new; drawn = K.drawn desk.new; service = service; heard = heard.now; line = line.new; told = L.told link.new }) }
+        (record { desk = K.StandsFor desk.new; behind = K.Behind desk.new; drawn = K.drawn desk.new; service = service; heard = heard.now; line = line.new; told = L.told link.new }) }
     ensures goes { Goes (end_in result) (L.standing link.old) (L.faults link.old) (L.told link.old) (L.standing link.new) (L.faults link.new) (L.told link.new) }
     ensures ends { IsEventEnd K.MayAnswer (end_in result) }
     ensures same_in { HearsAlike line.old line.new }
     ensures same_keys { K.keys desk.new ≡ K.keys desk.old }
-    ensures same_reference { K.draw_name desk.new ≡ K.draw_name desk.old }
+    ensures same_binding { K.bound_to desk.new ≡ K.bound_to desk.old }
     ensures desk_counted { CountsDesk (end_in result) (K.fault_count desk.old) (K.fault_count desk.new) }
 {
     opens_what_it_sealed::<K::S>();
@@ -63,14 +63,14 @@ fn run_first<L: Link, K: Desk, V: Service>(
 ) -> Result<(), ConnEnd>
     requires ready { 0 < K.ready_jobs desk.old }
     ensures did { Did K.D.step V.step K.S.lock (K.keys desk.old)
-        (record { desk = K.StandsFor desk.old; drawn = K.drawn desk.old; service = service.old; heard = heard.now; line = line.old; told = L.told link.old })
+        (record { desk = K.StandsFor desk.old; behind = K.Behind desk.old; drawn = K.drawn desk.old; service = service.old; heard = heard.now; line = line.old; told = L.told link.old })
         (λ rules talk. Run now ∷ []) (end_in result)
-        (record { desk = K.StandsFor desk.new; drawn = K.drawn desk.new; service = service.new; heard = heard.now; line = line.new; told = L.told link.new }) }
+        (record { desk = K.StandsFor desk.new; behind = K.Behind desk.new; drawn = K.drawn desk.new; service = service.new; heard = heard.now; line = line.new; told = L.told link.new }) }
     ensures goes { Goes (end_in result) (L.standing link.old) (L.faults link.old) (L.told link.old) (L.standing link.new) (L.faults link.new) (L.told link.new) }
     ensures ends { IsEventEnd K.MayAnswer (end_in result) }
     ensures same_in { HearsAlike line.old line.new }
     ensures same_keys { K.keys desk.new ≡ K.keys desk.old }
-    ensures same_reference { K.draw_name desk.new ≡ K.draw_name desk.old }
+    ensures same_binding { K.bound_to desk.new ≡ K.bound_to desk.old }
     ensures desk_counted { CountsDesk (end_in result) (K.fault_count desk.old) (K.fault_count desk.new) }
 {
     opens_what_it_sealed::<K::S>();
@@ -97,14 +97,14 @@ pub(crate) fn work_all<L: Link, K: Desk, V: Service>(
     text: &mut Octets,
 ) -> Result<(), ConnEnd>
     ensures worked { Worked K.D.step V.step K.S.lock (K.keys desk.old)
-        (record { desk = K.StandsFor desk.old; drawn = K.drawn desk.old; service = service.old; heard = heard.now; line = line.old; told = L.told link.old })
+        (record { desk = K.StandsFor desk.old; behind = K.Behind desk.old; drawn = K.drawn desk.old; service = service.old; heard = heard.now; line = line.old; told = L.told link.old })
         now (end_in result)
-        (record { desk = K.StandsFor desk.new; drawn = K.drawn desk.new; service = service.new; heard = heard.now; line = line.new; told = L.told link.new }) }
+        (record { desk = K.StandsFor desk.new; behind = K.Behind desk.new; drawn = K.drawn desk.new; service = service.new; heard = heard.now; line = line.new; told = L.told link.new }) }
     ensures goes { Goes (end_in result) (L.standing link.old) (L.faults link.old) (L.told link.old) (L.standing link.new) (L.faults link.new) (L.told link.new) }
     ensures ends { IsEventEnd K.MayAnswer (end_in result) }
     ensures same_in { HearsAlike line.old line.new }
     ensures same_keys { K.keys desk.new ≡ K.keys desk.old }
-    ensures same_reference { K.draw_name desk.new ≡ K.draw_name desk.old }
+    ensures same_binding { K.bound_to desk.new ≡ K.bound_to desk.old }
     ensures desk_counted { CountsDesk (end_in result) (K.fault_count desk.old) (K.fault_count desk.new) }
 {
     if let Err(end) = tick::<L, K, V>(alloc, desk, now, line, link, heard, text) {

@@ -1,5 +1,5 @@
 -- What a desk's clauses say, by what its calls come to in the journal.
-use Rattle.std.proofs.Common.{◌≡◌, ℕ, Option, Some, None, Result, Ok, Err, IfErr, IfOk, OnOk, List, ◌++◌, refl}
+use Rattle.std.proofs.Common.{◌≡◌, ◌≤◌, ◌<◌, ◌+◌, ℕ, Option, Some, None, Result, Ok, Err, IfErr, IfOk, OnOk, List, ◌++◌, length, length-append, ap, sym, subst, ◌∙◌, refl, arith}
 use Rattle.std.specs.Prelude.{IfSome, IsSomeAnd, is_none, is_some, true}
 use Rattle.std.proofs.lemmas.Bool.{false≢true}
 use Rattle.auth_keys.specs.declared.ring.RingKey.{RingKey}
@@ -23,8 +23,9 @@ use Rattle.server_core.specs.Desks.{Counts, Does, DoesNothing}
 use Rattle.server_core.specs.Packets.{IsHeardOf}
 use Rattle.server_rules.specs.Answer.{Answer}
 use Rattle.server_rules.specs.Server.{Server}
-use Rattle.sess_journal.specs.Keeping.{Book, ByHeard, HasCounted, IsSameDisk, Journals, KeepsFor, Seen, StandsFor, count_of, disk_by, disk_in, place_by}
-use Rattle.sess_journal.specs.Replay.{Bases}
+use Rattle.sess_records.specs.Standing.{SpellsSome}
+use Rattle.sess_journal.specs.Keeping.{Adds, Behind, Book, ByHeard, HasCounted, IfNothingDone, IsBroken, IsFull, IsSameDisk, Journals, KeepsFor, LeavesSome, OfDisks, Refuses, Seen, StandsFor, count_of, disk_by, disk_in, event_bytes_max, journal_bytes_max, place_by}
+use Rattle.sess_journal.specs.Replay.{Bases, Reached, Replays, at_first}
 
 pub ok_map : {A E : Type 0} {P Q : A → Type 0} (r : Result A E) → ((value : A) → P value → Q value) → IfOk r P → IfOk r Q
 ok_map (Ok value) f h = f value h
@@ -97,3 +98,85 @@ module _ {K S D : Type 0} (bases : Bases S D) (told : K → Option DiskTold) (de
       → Journals bases told entries all spare server before desk r P → IfErr r (λ fault. fault ≡ faults.Memory → StandsFor bases told desk server)
   still_stands entries all spare server before r P journal =
       err_map r (λ fault h is. let kept = h is in (entries ++ journal.more, kept.1)) journal.memory
+
+-- ---- what a fault leaves
+
+-- where there was no room nothing was done
+pub nothing_done : {A P : Type 0} (len : ℕ) (r : Result A DeskFault) → IfErr r (IfNothingDone P) → IfErr r (λ fault. fault ≡ faults.Full len → P)
+nothing_done {A} {P} len r h = err_map r (λ fault done is. subst (λ (f : DeskFault). IfNothingDone P f) is done) h
+
+pub full_stands : {K S D A : Type 0} (bases : Bases S D) (told : K → Option DiskTold) (before after : Seen K S D) (server : Server) (len : ℕ) (r : Result A DeskFault)
+    → IfErr r (IfNothingDone (after ≡ before)) → StandsFor bases told before server → IfErr r (λ fault. fault ≡ faults.Full len → StandsFor bases told after server)
+full_stands {K} {S} {D} bases told before after server len r done stands =
+    err_map r (λ fault same is. subst (λ (d : Seen K S D). StandsFor bases told d server) (sym (same is)) stands) (nothing_done len r done)
+
+-- the file of an open journal, or another one
+file_or : {K : Type 0} → File K → Option (File K) → File K
+file_or other None = other
+file_or other (Some file) = file
+
+some_map : {A : Type 0} {P Q : A → Type 0} (o : Option A) → ((value : A) → P value → Q value) → IsSomeAnd o P → IsSomeAnd o Q
+some_map (Some value) f h = f value h
+some_map None f h = absurd h
+
+full_longer : {K : Type 0} (book : Book K) (bytes most len : ℕ) → bytes ≤ most → IsFull book bytes len → IsFull book most len
+full_longer book bytes most len few full =
+    some_map book.journal (λ file h. let long : journal_bytes_max < len + bytes = h.1 in (h.0, omega (arith, few, long))) full
+
+-- what a disk tells after a call that it told before
+told_later : (Q : DiskTold → DiskTold → Type 0) (P : DiskTold → Type 0) (one other : Option DiskTold) → is_some other ≡ is_some one → ((was is : DiskTold) → Q was is → P is)
+    → IfSome one (λ was. IsSomeAnd other (λ is. Q was is)) → IfSome other P
+told_later Q P None None same f h = tt
+told_later Q P None (Some is) same f h = absurd (false≢true (sym same))
+told_later Q P (Some was) None same f h = tt
+told_later Q P (Some was) (Some is) same f h = f was is h
+
+module _ {K S D : Type 0} (bases : Bases S D) (told : K → Option DiskTold) (place : K → ℕ) (entries : List Record) (server : Server) (before after : Seen K S D)
+    (keeps : KeepsFor bases told entries before server) where
+  -- a journal that stands for a server is open
+  not_closed : before.book.journal ≡ None → ⊥
+  not_closed closed = let both : Some keeps.recorded.file ≡ None = sym keeps.recorded.opened ∙ closed in absurd (cc)
+
+  -- its disk failed as these records were to be added
+  broke : (more : List Record) → Adds bases told entries more before after → OfDisks before.book after.book (IsSameDisk told place) → after.server.seal ≡ before.server.seal → length more ≤ 2
+      → IsBroken bases told after server
+  broke more adds disks seal few =
+      let file_is : keeps.recorded.file ≡ adds.file = ap (λ (o : Option (File K)). file_or keeps.recorded.file o) (sym keeps.recorded.opened ∙ adds.opened) in
+      let from : disk_in before.book ≡ Some adds.file.disk = ap (λ (o : Option (File K)). disk_by o before.book.lost) adds.opened in
+      let of_one : IfSome (Some adds.file.disk) (λ one. IsSomeAnd (disk_in after.book) (λ other. IsSameDisk told place one other)) =
+      subst (λ (o : Option K). IfSome o (λ one. IsSomeAnd (disk_in after.book) (λ other. IsSameDisk told place one other))) from disks in
+      let same_disk : IsSameDisk told place adds.file.disk adds.disk = subst (λ (o : Option K). IsSomeAnd o (λ other. IsSameDisk told place adds.file.disk other)) adds.stands of_one in
+      let reached : Replays (bases before.server.seal adds.file.seed) entries at_first keeps.recorded.reached =
+      subst (λ (f : File K). Replays (bases before.server.seal f.seed) entries at_first keeps.recorded.reached) file_is keeps.recorded.replays in
+      record {
+        disk = adds.disk;
+        stands = adds.stands;
+        seed = adds.file.seed;
+        entries = entries;
+        reached = keeps.recorded.reached;
+        replays = subst (λ (s : S). Replays (bases s adds.file.seed) entries at_first keeps.recorded.reached) (sym seal) reached;
+        same = keeps.recorded.same;
+        more = more;
+        few = few;
+        after = adds.reached;
+        lawful = subst (λ (s : S). Replays (bases s adds.file.seed) (entries ++ more) at_first adds.reached) (sym seal) adds.replays;
+        spells =
+            told_later (λ was is. LeavesSome was is (SpellsSome adds.file.seed entries more)) (λ file. SpellsSome adds.file.seed entries more file.contents) (told adds.file.disk) (told adds.disk)
+            same_disk.tells (λ was is leaves. leaves.read) adds.leaves;
+      }
+
+  -- what a call leaves, by its fault
+  pub behind_by : {A : Type 0} (bytes : ℕ) (all spare : List Record) (r : Result A DeskFault) (P : A → List Record → Type 0) → bytes ≤ event_bytes_max → length all ≤ 2
+      → Refuses bytes before.book r → Journals bases told entries all spare server before after r P → IfErr r (IfNothingDone (after ≡ before))
+      → OfDisks before.book after.book (IsSameDisk told place) → after.server.seal ≡ before.server.seal → IfErr r (λ fault. Behind bases told after fault server)
+  behind_by bytes all spare (Ok value) P short few refuses journal done disks seal = tt
+  behind_by bytes all spare (Err faults.Memory) P short few refuses journal done disks seal = (entries ++ journal.more, (journal.memory refl).1)
+  behind_by bytes all spare (Err faults.Closed) P short few refuses journal done disks seal = absurd (not_closed (refuses.closed.1 refl))
+  behind_by bytes all spare (Err (faults.Full len)) P short few refuses journal done disks seal =
+      let full : IsFull before.book event_bytes_max len = full_longer before.book bytes event_bytes_max len short ((refuses.full len).1 refl) in (
+        (entries, subst (λ (d : Seen K S D). KeepsFor bases told entries d server) (sym done) keeps),
+        subst (λ (d : Seen K S D). IsFull d.book event_bytes_max len) (sym done) full,
+      )
+  behind_by bytes all spare (Err faults.Disk) P short few refuses journal done disks seal =
+      let sum : length all ≡ length journal.more + length journal.back = ap (λ (l : List Record). length l) journal.front ∙ length-append journal.more journal.back in
+      broke journal.more journal.adds disks seal (omega (arith, sum, few))

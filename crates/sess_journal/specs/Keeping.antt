@@ -137,6 +137,10 @@ journal_bytes_max = 268435456
 abbrev pub IsFull : {K : Type 0} → Book K → ℕ → ℕ → Type 0
 IsFull book bytes len = IsSomeAnd book.journal (λ file. (len ≡ file.len) × (journal_bytes_max < len + bytes))
 
+-- the most bytes that one event adds: those of a packet of 1,048,576, the longest one that a frame has, and 22 beside it
+abbrev pub event_bytes_max : ℕ
+event_bytes_max = 1048598
+
 -- A call answers `Closed` exactly where the journal is closed, and `Full` exactly where it has no room for so many bytes more.
 pub record Refuses {K A : Type 0} (bytes : ℕ) (book : Book K) (result : Result A DeskFault) : Type 0 where
   pub closed : IsClosed book ↔ (result ≡ Err faults.Closed)
@@ -184,6 +188,30 @@ pub record Adds {K S D : Type 0} (bases : Bases S D) (told : K → Option DiskTo
   pub reached : Reached
   pub replays : Replays (bases before.server.seal file.seed) (entries ++ more) at_first reached
   pub leaves : IfSome (told file.disk) (λ was. IsSomeAnd (told disk) (λ is. LeavesSome was is (SpellsSome file.seed entries more)))
+
+-- A call of its disk failed in an event of a desk that stood for this server. Its file, where the disk tells, spells lawful records
+-- that lead to that server, but for a later moment, and the first ones of those that the event adds, at most two.
+pub record IsBroken {K S D : Type 0} (bases : Bases S D) (told : K → Option DiskTold) (desk : Seen K S D) (server : Server) : Type 0 where
+  pub disk : K
+  pub stands : disk_in desk.book ≡ Some disk
+  pub seed : List ℕ
+  pub entries : List Record
+  pub reached : Reached
+  pub replays : Replays (bases desk.server.seal seed) entries at_first reached
+  pub same : server ≡ record reached.server { now = server.now }
+  pub more : List Record
+  pub few : length more ≤ 2
+  pub after : Reached
+  pub lawful : Replays (bases desk.server.seal seed) (entries ++ more) at_first after
+  pub spells : IfSome (told disk) (λ file. SpellsSome seed entries more file.contents)
+
+-- A desk behind a call that answered this fault, where it stood for this server. `Closed` is answered by none that stands for a
+-- server, and `Full` only where there is no room for what one event may add.
+abbrev pub Behind : {K S D : Type 0} → Bases S D → (K → Option DiskTold) → Seen K S D → DeskFault → Server → Type 0
+Behind bases told desk faults.Memory server = StandsFor bases told desk server
+Behind bases told desk faults.Closed server = ⊥
+Behind bases told desk (faults.Full len) server = StandsFor bases told desk server × IsFull desk.book event_bytes_max len
+Behind bases told desk faults.Disk server = IsBroken bases told desk server
 
 -- the record of an event of a desk at this moment, or at the greatest so far where that is later, with the place of its draw
 abbrev pub entry_at : {K S D : Type 0} → (D → ℕ) → Seen K S D → ℕ → Event (List ℕ) → Record

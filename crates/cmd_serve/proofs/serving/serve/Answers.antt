@@ -8,7 +8,7 @@ use Rattle.cmd_serve.proofs.serving.serve.Goals as goal
 pub returns-clause-serves : goal.returns-clause-serves
 returns-clause-serves g c = λ outside first is stands.
     let all = c.serve_all.ensures.served outside first is (record { server = stands.server; draw = stands.draw; served = c.fresh-service.ensures ∙ stands.served; gave = stands.gave; count = stands.count }) in
-    let side : Side _ Registers = record { desk = g.K.Desk.StandsFor c.serve_all.new.desk; drawn = g.K.Desk.drawn c.serve_all.new.desk; service = c.serve_all.new.service; given = g.C.Clock.given c.serve_all.new.clock; left = c.serve_all.new.left; calls = g.N.Net.calls c.serve_all.new.net } in
+    let side : Side _ Registers = record { desk = g.K.Desk.StandsFor c.serve_all.new.desk; behind = g.K.Desk.Behind c.serve_all.new.desk; drawn = g.K.Desk.drawn c.serve_all.new.desk; service = c.serve_all.new.service; given = g.C.Clock.given c.serve_all.new.clock; left = c.serve_all.new.left; calls = g.N.Net.calls c.serve_all.new.net } in
     record {
       connections = all.connections;
       are = record {
@@ -22,3 +22,7 @@ returns-clause-serves g c = λ outside first is stands.
       counted = c.serve_all.ensures.counted;
       tells = c.serve_all.ensures.first_fault;
     }
+
+pub returns-clause-desk_counted : goal.returns-clause-desk_counted
+returns-clause-desk_counted g c = λ outside first is stands.
+    c.serve_all.ensures.desk_counted outside first is (record { server = stands.server; draw = stands.draw; served = c.fresh-service.ensures ∙ stands.served; gave = stands.gave; count = stands.count })

@@ -6,7 +6,7 @@ returns-in-Ok-clause-trace g c = rw (← c.conn.view_is) c.take_turns-end.ensure
 
 pub returns-in-Err-clause-trace : goal.returns-in-Err-clause-trace
 returns-in-Err-clause-trace g c outside talk is begins = rw (← c.conn.view_is)
-    (trace_unbegun _ talk (g.K.Desk.StandsFor c.args.desk.now) (g.K.Desk.drawn c.args.desk.now) c.args.service.now _ begins)
+    (trace_unbegun _ talk (g.K.Desk.StandsFor c.args.desk.now) (g.K.Desk.Behind c.args.desk.now) (g.K.Desk.drawn c.args.desk.now) c.args.service.now _ begins)
 
 pub returns-in-Ok-clause-record : goal.returns-in-Ok-clause-record
 returns-in-Ok-clause-record g c = rw (← c.conn.view_is) c.take_turns-end.ensures.record

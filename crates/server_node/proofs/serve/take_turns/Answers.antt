@@ -8,7 +8,7 @@ use Rattle.server_node.proofs.serve.take_turns.Goals as goal
 pub turns-init : goal.turns-init
 turns-init g c = record {
   so_far = λ outside talk is begins.
-      turns_none _ talk (g.K.Desk.StandsFor c.args.desk.now) (g.K.Desk.drawn c.args.desk.now) c.args.service.now c.new-heard.result c.server.result
+      turns_none _ talk (g.K.Desk.StandsFor c.args.desk.now) (g.K.Desk.Behind c.args.desk.now) (g.K.Desk.drawn c.args.desk.now) c.args.service.now c.new-heard.result c.server.result
       (record { told = g.L.Link.told c.args.link.now; given = g.C.Clock.given c.args.clock.now; left = c.args.left.now }) c.new-heard.ensures c.server.ensures begins;
   room = c.requires.room;
   read = none_read (g.L.Link.told c.args.link.now);
@@ -18,7 +18,7 @@ turns-init g c = record {
   fewer = same_fewer c.args.left.now;
   some = c.requires.some;
   same_keys = refl;
-  same_reference = refl;
+  same_binding = refl;
   desk_counted = refl;
 }
 
@@ -30,15 +30,15 @@ returns-in-Err-clause-record g c =
 pub returns-in-Err-clause-trace : goal.returns-in-Err-clause-trace
 returns-in-Err-clause-trace g c outside talk is begins =
     turns_ended g.K.D.Draw.step g.V.Service.step g.K.S.Seal.lock (g.K.Desk.keys c.args.desk.now) (g.K.Desk.keys c.turns.desk) outside talk _ c.turns._count
-    (record { desk = g.K.Desk.StandsFor c.turns.desk; drawn = g.K.Desk.drawn c.turns.desk; service = c.turns.service; heard = c.turns.heard; line = c.turns.line; told = g.L.Link.told c.turns.link })
-    (record { desk = g.K.Desk.StandsFor c.take_turn.new.desk; drawn = g.K.Desk.drawn c.take_turn.new.desk; service = c.take_turn.new.service; heard = c.take_turn.new.heard; line = Raw []; told = g.L.Link.told c.take_turn.new.link })
+    (record { desk = g.K.Desk.StandsFor c.turns.desk; behind = g.K.Desk.Behind c.turns.desk; drawn = g.K.Desk.drawn c.turns.desk; service = c.turns.service; heard = c.turns.heard; line = c.turns.line; told = g.L.Link.told c.turns.link })
+    (record { desk = g.K.Desk.StandsFor c.take_turn.new.desk; behind = g.K.Desk.Behind c.take_turn.new.desk; drawn = g.K.Desk.drawn c.take_turn.new.desk; service = c.take_turn.new.service; heard = c.take_turn.new.heard; line = Raw []; told = g.L.Link.told c.take_turn.new.link })
     (record { told = g.L.Link.told c.turns.link; given = g.C.Clock.given c.turns.clock; left = c.turns.left }) (record { told = g.L.Link.told c.take_turn.new.link; given = g.C.Clock.given c.take_turn.new.clock; left = c.take_turn.new.left }) c.in-Err.end
     c.turns.invariant.same_keys (omega (arith, c.turns-test.true, c.turns.auto._count-end)) is (c.turns.invariant.so_far outside talk is begins) c.in-Err.ensures.took
 
 pub returns-clause-trace : goal.returns-clause-trace
 returns-clause-trace g c outside talk is begins =
     turns_spent _ talk _ c.turns._count
-    (record { desk = g.K.Desk.StandsFor c.turns.desk; drawn = g.K.Desk.drawn c.turns.desk; service = c.turns.service; heard = c.turns.heard; line = c.turns.line; told = g.L.Link.told c.turns.link })
+    (record { desk = g.K.Desk.StandsFor c.turns.desk; behind = g.K.Desk.Behind c.turns.desk; drawn = g.K.Desk.drawn c.turns.desk; service = c.turns.service; heard = c.turns.heard; line = c.turns.line; told = g.L.Link.told c.turns.link })
     (record { told = g.L.Link.told c.turns.link; given = g.C.Clock.given c.turns.clock; left = c.turns.left })
     (omega (arith, c.turns-test.false, c.turns.auto._count-end)) (c.turns.invariant.so_far outside talk is begins)
 
@@ -49,8 +49,8 @@ turns-preserved g c =
     record {
       so_far = λ outside talk is begins.
           turn_more g.K.D.Draw.step g.V.Service.step g.K.S.Seal.lock (g.K.Desk.keys c.args.desk.now) (g.K.Desk.keys c.turns.desk) outside talk _ c.turns._count
-          (record { desk = g.K.Desk.StandsFor c.turns.desk; drawn = g.K.Desk.drawn c.turns.desk; service = c.turns.service; heard = c.turns.heard; line = c.turns.line; told = g.L.Link.told c.turns.link })
-          (record { desk = g.K.Desk.StandsFor c.take_turn.new.desk; drawn = g.K.Desk.drawn c.take_turn.new.desk; service = c.take_turn.new.service; heard = c.take_turn.new.heard; line = c.in-Ok.next; told = g.L.Link.told c.take_turn.new.link })
+          (record { desk = g.K.Desk.StandsFor c.turns.desk; behind = g.K.Desk.Behind c.turns.desk; drawn = g.K.Desk.drawn c.turns.desk; service = c.turns.service; heard = c.turns.heard; line = c.turns.line; told = g.L.Link.told c.turns.link })
+          (record { desk = g.K.Desk.StandsFor c.take_turn.new.desk; behind = g.K.Desk.Behind c.take_turn.new.desk; drawn = g.K.Desk.drawn c.take_turn.new.desk; service = c.take_turn.new.service; heard = c.take_turn.new.heard; line = c.in-Ok.next; told = g.L.Link.told c.take_turn.new.link })
           (record { told = g.L.Link.told c.turns.link; given = g.C.Clock.given c.turns.clock; left = c.turns.left }) (record { told = g.L.Link.told c.take_turn.new.link; given = g.C.Clock.given c.take_turn.new.clock; left = c.take_turn.new.left })
           so_far.same_keys (omega (arith, c.turns-test.true, c.turns.auto._count-end)) is (so_far.so_far outside talk is begins) turn.took;
       room = search rules;
@@ -61,6 +61,6 @@ turns-preserved g c =
       fewer = fewer_both c.args.left.now c.turns.left c.take_turn.new.left so_far.fewer turn.left.fewer;
       some = turn.left.stops;
       same_keys = c.take_turn.ensures.same_keys ∙ so_far.same_keys;
-      same_reference = c.take_turn.ensures.same_reference ∙ so_far.same_reference;
+      same_binding = c.take_turn.ensures.same_binding ∙ so_far.same_binding;
       desk_counted = turn.desk_counted ∙ so_far.desk_counted;
     }

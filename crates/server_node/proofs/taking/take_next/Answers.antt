@@ -19,7 +19,8 @@ returns-in-Ok-clause-next g c = record {
 
 pub returns-in-Err-clause-next : goal.returns-in-Err-clause-next
 returns-in-Err-clause-next g c =
-    next_failed g.K.D.Draw.step g.K.S.Seal.lock (g.K.Desk.keys c.args.desk.now) (g.K.Desk.StandsFor c.args.desk.now) (g.K.Desk.StandsFor c.on_packet.new.self) (g.K.Desk.drawn c.args.desk.now) (g.K.Desk.drawn c.on_packet.new.self)
+    next_failed g.K.D.Draw.step g.K.S.Seal.lock (g.K.Desk.keys c.args.desk.now) (g.K.Desk.StandsFor c.args.desk.now) (g.K.Desk.StandsFor c.on_packet.new.self) (g.K.Desk.Behind c.args.desk.now) (g.K.Desk.Behind c.on_packet.new.self) (g.K.Desk.drawn c.args.desk.now) (g.K.Desk.drawn c.on_packet.new.self)
     c.args.now c.args.wire.now _ c.in-Packet.packet.now c.in-Err.fault _ c.end_of.ensures
     (λ from packets bytes hears. ((c.in-Packet.ensures.answers from packets bytes hears).packet c.in-Packet.packet.now).0 refl)
-    (λ server stands memory. c.in-Err.ensures.unchanged_on_memory server stands memory)
+    (λ server stands memory. c.in-Err.ensures.unchanged_on_memory server stands memory) (λ server len stands full. c.in-Err.ensures.unchanged_on_full server len stands full)
+    (λ server stands short. c.in-Err.ensures.behind server stands short)

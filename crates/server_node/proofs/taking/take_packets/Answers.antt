@@ -10,7 +10,7 @@ packets-init g c = record {
   fewer = same_fewer c.args.left.now;
   some = c.requires.some;
   same_keys = refl;
-  same_reference = refl;
+  same_binding = refl;
   desk_counted = refl;
 }
 
@@ -49,7 +49,7 @@ packets-preserved g c =
       fewer = one_fewer c.args.left.now c.packets.left c.count_down.new.left c.count_down.ensures.counted so_far.fewer;
       some = goes_on_left c.count_down.new.left (sym c.in_default.ensures.stops);
       same_keys = c.take_packet.ensures.same_keys ∙ so_far.same_keys;
-      same_reference = c.take_packet.ensures.same_reference ∙ so_far.same_reference;
+      same_binding = c.take_packet.ensures.same_binding ∙ so_far.same_binding;
       desk_counted = c.in-Ok-true.ensures.desk_counted ∙ so_far.desk_counted;
     }
 

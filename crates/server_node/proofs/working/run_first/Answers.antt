@@ -11,4 +11,5 @@ returns-in-Ok-clause-did g c =
 pub returns-in-Err-clause-did : goal.returns-in-Err-clause-did
 returns-in-Err-clause-did g c =
     did_fail g.K.D.Draw.step g.V.Service.step g.K.S.Seal.lock (g.K.Desk.keys c.args.desk.now) _ _ _ c.in-Err.fault _
-    c.end_of.ensures refl refl (λ server stands memory. c.in-Err.ensures.unchanged_on_memory server stands memory) (λ memory. c.in-Err.ensures.same_service_on_memory memory)
+    c.end_of.ensures refl refl (λ server stands memory. c.in-Err.ensures.unchanged_on_memory server stands memory) (λ server len stands full. c.in-Err.ensures.unchanged_on_full server len stands full)
+    (λ server stands. c.in-Err.ensures.behind server stands) (λ memory. c.in-Err.ensures.same_service_on_memory memory) (λ len full. c.in-Err.ensures.same_service_on_full len full)

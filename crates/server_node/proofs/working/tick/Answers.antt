@@ -10,4 +10,5 @@ returns-in-Ok-clause-did g c service =
 pub returns-in-Err-clause-did : goal.returns-in-Err-clause-did
 returns-in-Err-clause-did g c service =
     did_fail g.K.D.Draw.step g.V.Service.step g.K.S.Seal.lock (g.K.Desk.keys c.args.desk.now) _ _ _ c.in-Err.fault _
-    c.end_of.ensures refl refl (λ server stands memory. c.in-Err.ensures.unchanged_on_memory server stands memory) (λ memory. refl)
+    c.end_of.ensures refl refl (λ server stands memory. c.in-Err.ensures.unchanged_on_memory server stands memory) (λ server len stands full. c.in-Err.ensures.unchanged_on_full server len stands full)
+    (λ server stands. c.in-Err.ensures.behind server stands) (λ memory. refl) (λ len full. refl)

@@ -15,7 +15,7 @@ runs-init g c = record {
   goes = c.in_default.ensures.goes;
   same_in = c.tick.ensures.same_in;
   same_keys = c.tick.ensures.same_keys;
-  same_reference = c.tick.ensures.same_reference;
+  same_binding = c.tick.ensures.same_binding;
   desk_counted = c.in_default.ensures.desk_counted;
 }
 
@@ -38,7 +38,7 @@ runs-preserved g c =
       goes = goes_both None _ _ _ _ _ _ _ _ _ so_far.goes c.in_default-run_first.ensures.goes;
       same_in = alike_both _ _ _ so_far.same_in c.run_first.ensures.same_in;
       same_keys = c.run_first.ensures.same_keys ∙ so_far.same_keys;
-      same_reference = c.run_first.ensures.same_reference ∙ so_far.same_reference;
+      same_binding = c.run_first.ensures.same_binding ∙ so_far.same_binding;
       desk_counted = c.in_default-run_first.ensures.desk_counted ∙ so_far.desk_counted;
     }
 

@@ -1,9 +1,9 @@
-use Rattle.std.proofs.Common.{◌++◌, max}
+use Rattle.std.proofs.Common.{◌++◌, max, arith}
 use Rattle.server_rules.specs.Answer.{after_attach}
 use Rattle.server_rules.specs.Server.{Name}
 use Rattle.server_session.specs.Says.{setting_of}
 use Rattle.sess_journal.specs.Replay.{Bases, bases_of}
-use Rattle.sess_journal.proofs.TraitLemmas.{counts_so, does_so, ok_map, stays_in_place, still_stands}
+use Rattle.sess_journal.proofs.TraitLemmas.{behind_by, counts_so, does_so, full_stands, ok_map, stays_in_place, still_stands}
 use Rattle.sess_journal.specs.Keeping.{disk_in}
 use Rattle.sess_journal.proofs.as_desk.KeptDesk.attach.Goals as goal
 
@@ -21,8 +21,19 @@ returns-clause-unchanged_on_memory g c = λ server stands.
     let bases : Bases g.row.S.Denot g.row.D.Denot = bases_of g.S.Seal.lock g.S.Seal.keys g.D.Draw.step g.D.Seeded.standing_at g.D.Seeded.place_of in
     still_stands bases g.K.Disk.told c.attach.new.self stands.0 _ _ server c.args.self.now c.attach.result _ (c.attach.ensures.journal stands.0 server stands.1)
 
+pub returns-clause-unchanged_on_full : goal.returns-clause-unchanged_on_full
+returns-clause-unchanged_on_full g c = λ server len stands.
+    let bases : Bases g.row.S.Denot g.row.D.Denot = bases_of g.S.Seal.lock g.S.Seal.keys g.D.Draw.step g.D.Seeded.standing_at g.D.Seeded.place_of in
+    full_stands bases g.K.Disk.told c.args.self.now c.attach.new.self server len c.attach.result c.attach.ensures.unchanged stands
+
+pub returns-clause-behind : goal.returns-clause-behind
+returns-clause-behind g c = λ server stands.
+    let bases : Bases g.row.S.Denot g.row.D.Denot = bases_of g.S.Seal.lock g.S.Seal.keys g.D.Draw.step g.D.Seeded.standing_at g.D.Seeded.place_of in
+    behind_by bases g.K.Disk.told g.K.Disk.place stands.0 server c.args.self.now c.attach.new.self stands.1 38 _ _ c.attach.result _ (omega arith) (omega arith)
+    c.attach.ensures.refuses (c.attach.ensures.journal stands.0 server stands.1) c.attach.ensures.unchanged c.attach.ensures.same_disk c.attach.ensures.same_seal
+
 pub returns-clause-counted : goal.returns-clause-counted
 returns-clause-counted g c = counts_so g.K.Disk.faults c.attach.result c.args.self.now.book c.attach.new.self.book c.has_disk.ensures c.attach.ensures.counted
 
-pub returns-clause-same_place : goal.returns-clause-same_place
-returns-clause-same_place g c = stays_in_place g.K.Disk.told g.K.Disk.place (disk_in c.args.self.now.book) (disk_in c.attach.new.self.book) c.has_disk.ensures c.attach.ensures.same_disk
+pub returns-clause-same_binding : goal.returns-clause-same_binding
+returns-clause-same_binding g c = stays_in_place g.K.Disk.told g.K.Disk.place (disk_in c.args.self.now.book) (disk_in c.attach.new.self.book) c.has_disk.ensures c.attach.ensures.same_disk

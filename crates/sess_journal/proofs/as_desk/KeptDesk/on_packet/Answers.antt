@@ -1,9 +1,9 @@
-use Rattle.std.proofs.Common.{◌++◌, max}
+use Rattle.std.proofs.Common.{◌+◌, ◌++◌, length, max, arith}
 use Rattle.server_rules.specs.Answer.{after_packet}
 use Rattle.server_core.specs.Packets.{brought_in, effects_in}
 use Rattle.server_session.specs.Says.{setting_of}
 use Rattle.sess_journal.specs.Replay.{Bases, bases_of}
-use Rattle.sess_journal.proofs.TraitLemmas.{by_opened, by_refused, counts_so, does_nothing_so, does_so, ok_map, stays_in_place, still_stands}
+use Rattle.sess_journal.proofs.TraitLemmas.{behind_by, by_opened, by_refused, counts_so, does_nothing_so, does_so, full_stands, ok_map, stays_in_place, still_stands}
 use Rattle.sess_journal.specs.Keeping.{disk_in}
 use Rattle.sess_journal.proofs.as_desk.KeptDesk.on_packet.Goals as goal
 
@@ -38,8 +38,19 @@ returns-clause-unchanged_on_memory g c = λ server stands.
     let bases : Bases g.row.S.Denot g.row.D.Denot = bases_of g.S.Seal.lock g.S.Seal.keys g.D.Draw.step g.D.Seeded.standing_at g.D.Seeded.place_of in
     still_stands bases g.K.Disk.told c.on_packet.new.self stands.0 _ _ server c.args.self.now c.on_packet.result _ (c.on_packet.ensures.journal stands.0 server stands.1)
 
+pub returns-clause-unchanged_on_full : goal.returns-clause-unchanged_on_full
+returns-clause-unchanged_on_full g c = λ server len stands.
+    let bases : Bases g.row.S.Denot g.row.D.Denot = bases_of g.S.Seal.lock g.S.Seal.keys g.D.Draw.step g.D.Seeded.standing_at g.D.Seeded.place_of in
+    full_stands bases g.K.Disk.told c.args.self.now c.on_packet.new.self server len c.on_packet.result c.on_packet.ensures.unchanged stands
+
+pub returns-clause-behind : goal.returns-clause-behind
+returns-clause-behind g c = λ server stands short.
+    let bases : Bases g.row.S.Denot g.row.D.Denot = bases_of g.S.Seal.lock g.S.Seal.keys g.D.Draw.step g.D.Seeded.standing_at g.D.Seeded.place_of in
+    behind_by bases g.K.Disk.told g.K.Disk.place stands.0 server c.args.self.now c.on_packet.new.self stands.1 (22 + length c.args.packet.now) _ _ c.on_packet.result _ (omega (arith, short)) (omega arith)
+    c.on_packet.ensures.refuses (c.on_packet.ensures.journal stands.0 server stands.1) c.on_packet.ensures.unchanged c.on_packet.ensures.same_disk c.on_packet.ensures.same_seal
+
 pub returns-clause-counted : goal.returns-clause-counted
 returns-clause-counted g c = counts_so g.K.Disk.faults c.on_packet.result c.args.self.now.book c.on_packet.new.self.book c.has_disk.ensures c.on_packet.ensures.counted
 
-pub returns-clause-same_place : goal.returns-clause-same_place
-returns-clause-same_place g c = stays_in_place g.K.Disk.told g.K.Disk.place (disk_in c.args.self.now.book) (disk_in c.on_packet.new.self.book) c.has_disk.ensures c.on_packet.ensures.same_disk
+pub returns-clause-same_binding : goal.returns-clause-same_binding
+returns-clause-same_binding g c = stays_in_place g.K.Disk.told g.K.Disk.place (disk_in c.args.self.now.book) (disk_in c.on_packet.new.self.book) c.has_disk.ensures c.on_packet.ensures.same_disk

@@ -1,8 +1,8 @@
-use Rattle.std.proofs.Common.{◌++◌, max}
+use Rattle.std.proofs.Common.{◌++◌, max, arith}
 use Rattle.server_rules.specs.Answer.{after_work}
 use Rattle.server_session.specs.Says.{setting_of}
 use Rattle.sess_journal.specs.Replay.{Bases, bases_of}
-use Rattle.sess_journal.proofs.TraitLemmas.{counts_so, does_so, ok_map, on_ok_by, stays_in_place, still_stands}
+use Rattle.sess_journal.proofs.TraitLemmas.{behind_by, counts_so, does_so, full_stands, nothing_done, ok_map, on_ok_by, stays_in_place, still_stands}
 use Rattle.sess_journal.specs.Keeping.{disk_in}
 use Rattle.sess_journal.proofs.as_desk.KeptDesk.work.Goals as goal
 
@@ -24,8 +24,22 @@ returns-clause-unchanged_on_memory g c = λ server stands.
     let bases : Bases g.row.S.Denot g.row.D.Denot = bases_of g.S.Seal.lock g.S.Seal.keys g.D.Draw.step g.D.Seeded.standing_at g.D.Seeded.place_of in
     still_stands bases g.K.Disk.told c.work.new.self stands.0 _ _ server c.args.self.now c.work.result _ (c.work.ensures.journal stands.0 server stands.1)
 
+pub returns-clause-unchanged_on_full : goal.returns-clause-unchanged_on_full
+returns-clause-unchanged_on_full g c = λ server len stands.
+    let bases : Bases g.row.S.Denot g.row.D.Denot = bases_of g.S.Seal.lock g.S.Seal.keys g.D.Draw.step g.D.Seeded.standing_at g.D.Seeded.place_of in
+    full_stands bases g.K.Disk.told c.args.self.now c.work.new.self server len c.work.result c.work.ensures.unchanged stands
+
+pub returns-clause-behind : goal.returns-clause-behind
+returns-clause-behind g c = λ server stands.
+    let bases : Bases g.row.S.Denot g.row.D.Denot = bases_of g.S.Seal.lock g.S.Seal.keys g.D.Draw.step g.D.Seeded.standing_at g.D.Seeded.place_of in
+    behind_by bases g.K.Disk.told g.K.Disk.place stands.0 server c.args.self.now c.work.new.self stands.1 262196 _ _ c.work.result _ (omega arith) (omega arith)
+    c.work.ensures.refuses (c.work.ensures.journal stands.0 server stands.1) c.work.ensures.unchanged c.work.ensures.same_disk c.work.ensures.same_seal
+
+pub returns-clause-same_service_on_full : goal.returns-clause-same_service_on_full
+returns-clause-same_service_on_full g c = λ len. nothing_done len c.work.result c.work.ensures.same_service
+
 pub returns-clause-counted : goal.returns-clause-counted
 returns-clause-counted g c = counts_so g.K.Disk.faults c.work.result c.args.self.now.book c.work.new.self.book c.has_disk.ensures c.work.ensures.counted
 
-pub returns-clause-same_place : goal.returns-clause-same_place
-returns-clause-same_place g c = stays_in_place g.K.Disk.told g.K.Disk.place (disk_in c.args.self.now.book) (disk_in c.work.new.self.book) c.has_disk.ensures c.work.ensures.same_disk
+pub returns-clause-same_binding : goal.returns-clause-same_binding
+returns-clause-same_binding g c = stays_in_place g.K.Disk.told g.K.Disk.place (disk_in c.args.self.now.book) (disk_in c.work.new.self.book) c.has_disk.ensures c.work.ensures.same_disk
