@@ -1,6 +1,6 @@
 -- From what becomes of pieces to what is owed to a text.
-use Rattle.std.proofs.Common.{◌≡◌, ◌≢◌, ℕ, ◌+◌, ◌<◌, List, length, get_or, take, drop, Result, Ok, Err, IfOk}
-use Rattle.statuses.specs.Lines.{refusal_line}
+use Rattle.std.proofs.Common.{◌≡◌, ◌≢◌, ℕ, ◌+◌, ◌<◌, ◌≤◌, List, length, get_or, take, drop, Result, Ok, Err, IfOk}
+use Rattle.statuses.specs.Lines.{input_bytes_max, refusal_line}
 use Rattle.statuses.specs.declared.answer.Answer.{Answer}
 use Rattle.statuses.specs.declared.status.Status.TheVariants as status
 use Rattle.transport.specs.declared.form.Form.{Form}
@@ -9,6 +9,7 @@ use Rattle.secret_relay.specs.Standing.{Stands}
 use Rattle.secret_relay.specs.Stories.{Story}
 use Rattle.secret_relay.specs.declared.fault.RelayFault.{RelayFault}
 use Rattle.secret_relay.specs.declared.fault.RelayFault.TheVariants as faults
+use Rattle.cmd_relay.specs.Captures.{Spells}
 use Rattle.cmd_relay.specs.Inner.{Passes}
 use Rattle.cmd_relay.specs.Relays.{IsRefusedFor, cause_of}
 use Rattle.cmd_relay.specs.declared.capture.Piece.{Piece}

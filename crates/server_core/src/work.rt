@@ -16,7 +16,7 @@ ghost use Rattle.server_session.specs.Says.{Keys, setting_of};
 ghost use Rattle.server_session.specs.SessionState.{IsAt};
 ghost use Rattle.server_core.specs.Sessions.{AreApart, is_kept_as};
 ghost use Rattle.server_core.specs.Server.{CanSpeak, Stands};
-ghost use Rattle.server_core.specs.Desks.{IsBetweenEvents, IsShortRunAt};
+ghost use Rattle.server_core.specs.Desks.{IsShortRunAt};
 ghost use Rattle.server_core.specs.Effects.{Gives};
 ghost use Rattle.server_core.specs.Speech.{Begins};
 ghost use Rattle.server_core.specs.Working.{CanWork, Ends, IsRunning, worked};
