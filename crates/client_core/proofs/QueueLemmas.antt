@@ -1,5 +1,5 @@
 -- The queue of calls, as it is gone through.
-use Rattle.std.proofs.Common.{◌≡◌, ◌∙◌, ℕ, zero, suc, ◌+◌, ◌-◌, ◌<◌, ◌≤◌, Bool, true, false, List, [], ◌∷◌, Some, None, length, map, drop, ap, refl, sym, subst, inl, inr, arith}
+use Rattle.std.proofs.Common.{◌≡◌, ◌∙◌, ℕ, zero, suc, ◌+◌, ◌-◌, ◌≤◌, Bool, true, false, List, [], ◌∷◌, Some, None, length, map, drop, ap, refl, sym, subst, inl, inr, arith}
 use Rattle.std.specs.Prelude.{◌≢◌, if◌then◌else◌, option_map, slice_get, fold}
 use Rattle.std.proofs.lemmas.Bool.{cases_Bool, true≢false}
 use Rattle.std.specs.List.{drop-map}
@@ -144,10 +144,3 @@ so_far_all first core draft place k count so all = elim (cases_Bool draft.is_ful
       let none = none_left (drop place (queue so.now)) (omega (arith, so.left still, all)) in
       subst (Goes core draft) (sym (so.same ∙ ap (fold says_call so.now) none)) so.goes
 ]
-
--- there is a next call
-pub so_far_next : {S : Type 0} (first : Filling S) (core : Contents) (draft : Draft) (place k count : ℕ) → (so : SoFar first core draft place k count) → draft.is_full ≡ false → k < count
-    → slice_get (queue so.now) place ≢ None
-so_far_next first core draft place k count so room less = λ none.
-    let gone = drop_none (queue so.now) place none in
-    absurd (omega (arith, so.left room, ap length gone, less))
