@@ -1,8 +1,8 @@
 -- Numbers of a list, each once.
-use Rattle.std.proofs.Common.{◌≡◌, ◌∙◌, ◌+◌, ◌<◌, ◌≤◌, ℕ, Bool, true, false, List, [], ◌∷◌, ◌++◌, ap, sym, refl, inl, inr, arith, take, length, get_or, map, fold, append-nil, append_assoc}
+use Rattle.std.proofs.Common.{◌≡◌, ◌∙◌, ◌+◌, ◌<◌, ℕ, Bool, true, false, List, [], ◌∷◌, ◌++◌, ap, sym, refl, inl, inr, take, length, get_or, map, fold, append-nil, append_assoc}
 use Rattle.std.specs.Prelude.{not, ◌==◌, if◌then◌else◌}
-use Rattle.std.specs.List.{AllByRecursion, filter, list_any}
-use Rattle.std.proofs.lemmas.Bool.{cases_Bool, eqb-true, eq-eqb, ne_eqb, false≢true}
+use Rattle.std.specs.List.{filter, list_any}
+use Rattle.std.proofs.lemmas.Bool.{cases_Bool, eqb-true, eq-eqb, false≢true}
 use Rattle.std.proofs.lemmas.List.{take_more}
 use Rattle.std.proofs.lemmas.Grind.{fold-append}
 use Rattle.std.proofs.lemmas.List.Elements.{filter-append}
@@ -112,16 +112,3 @@ pub noted-more : (judged : List Judgement) (place : ℕ) (one : Judgement) → p
 noted-more judged place one within =
     ap (λ (some : List Judgement). fold noted [] some) (take_more judged place one within)
     ∙ fold-append noted [] (take place judged) (get_or judged place one ∷ [])
-
--- a number that is above all isn't among them
-pub above-absent : (number greatest : ℕ) (numbers : List ℕ) → greatest < number → AllByRecursion (λ one. one ≤ greatest) numbers → among number numbers ≡ false
-above-absent number greatest [] above below = refl
-above-absent number greatest (one ∷ numbers) above below =
-    let other : (one == number) ≡ false = ne_eqb one number (λ same. omega (arith, above, below.0)) in
-    rw other (above-absent number greatest numbers above below.1)
-
--- with a further number behind them, none is above one that is at least as great as both
-pub below-more : (number greatest most : ℕ) (numbers : List ℕ) → greatest ≤ most → number ≤ most → AllByRecursion (λ one. one ≤ greatest) numbers
-    → AllByRecursion (λ one. one ≤ most) (numbers ++ number ∷ [])
-below-more number greatest most [] le own below = (own, tt)
-below-more number greatest most (one ∷ numbers) le own below = (omega (arith, le, below.0), below-more number greatest most numbers le own below.1)
