@@ -150,7 +150,7 @@ without-room : {S V : Type 0} (rules : Rules S V) (first : Between S V) (count c
     → count < conns → (so_far : ServedSoFar rules first count calls side) → TookOne rules (behind_all first so_far.connections) side.calls (ends.Journal (faults.Full len)) later
     → ServedAll rules first conns calls Full later
 without-room rules first count conns calls side later len few so_far took =
-    let is_full : IsFullEnd took.one.end = (len, took.ended) in
+    let is_full : IsFullEnd took.one.end = record { len = len; is = took.ended } in
     record {
       connections = took.one ∷ so_far.connections;
       are = (so_far.are, took.is);

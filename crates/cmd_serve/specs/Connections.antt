@@ -84,8 +84,9 @@ AllGoOn [] = ⊤
 AllGoOn (last ∷ earlier) = AllGoOn earlier × GoesOn last.end
 
 -- the desk had no room for an event
-abbrev pub IsFullEnd : ConnEnd → Type 0
-IsFullEnd end = (len : ℕ) × (end ≡ ends.Journal (faults.Full len))
+pub record IsFullEnd (end : ConnEnd) : Type 0 where
+  pub len : ℕ
+  pub is : end ≡ ends.Journal (faults.Full len)
 
 -- How they ended, of so many that there should be: all were served; the last one answered as many packets as there were left; no
 -- further one could be taken; or the last one was cut off, as its event couldn't be done: a call of the journal's disk failed, the

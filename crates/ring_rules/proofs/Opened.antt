@@ -8,13 +8,11 @@ use Rattle.auth_keys.specs.declared.key.KeyKind.TheVariants.{Perm, Temp}
 use Rattle.auth_keys.specs.declared.ring.RingKey.{RingKey}
 use Rattle.envelope.specs.declared.parts.Dir.{Dir}
 use Rattle.envelope.specs.declared.parts.Envelope.{Envelope}
-use Rattle.envelope.specs.Lock.{ByteLaws, IsLock}
 use Rattle.envelope.specs.Opening.{Opens, key_named}
 use Rattle.envelope.specs.Packet.{IsEnvelope, IsPadding, Lock, Sealed, packet_of}
-use Rattle.envelope.specs.Reading.{envelope_in}
+use Rattle.envelope.specs.Reading.{envelope_in, ReadsBack}
 use Rattle.ring_rules.specs.Opening.{is_envelope, is_good_at, is_padding, is_sealed, opened, opened_under, padding_in, plain_in}
 use Rattle.ring_rules.proofs.Bytes.{are-bytes, bytes-are, bytes-same, same-bytes}
-use Rattle.ring_rules.proofs.PlainTexts.{envelope_in-plain_text, padding_in-plain_text, sealed_parts}
 
 -- ---- tests
 
@@ -138,19 +136,19 @@ worked-out-so lock now dir packet entry read envelope behind padding same same_p
     rw (same, same_padding)
     (if-so (is_good_at now entry.kind && is_sealed lock entry.key dir envelope padding packet) envelope (and_from _ _ (is-good now entry.kind good) sealed))
 
-pub worked_out-as_opens : (lock : Lock) → IsLock lock → ByteLaws → (ring : List RingKey) (now : ℕ) (dir : Dir) (packet : List ℕ) (envelope : Envelope)
+pub worked_out-as_opens : (lock : Lock) → ReadsBack lock → (ring : List RingKey) (now : ℕ) (dir : Dir) (packet : List ℕ) (envelope : Envelope)
     → Opens lock ring now dir packet envelope → opened lock ring now dir packet ≡ Some envelope
 unfolding opened
-worked_out-as_opens lock is laws ring now dir packet envelope opens =
+worked_out-as_opens lock back ring now dir packet envelope opens =
     let sealed = opens.sealed in
     let entry = sealed.entry in
-    let parts = sealed_parts lock is laws ring dir envelope opens.padding packet sealed in
-    let found : entry_of (key_named packet) ring ≡ Some entry = ap (λ (key : ℕ). entry_of key ring) parts.named ∙ sealed.found in
+    let named = back.named ring dir envelope opens.padding packet sealed in
+    let found : entry_of (key_named packet) ring ≡ Some entry = ap (λ (key : ℕ). entry_of key ring) named ∙ sealed.found in
     let read : envelope_in (key_named packet) (plain_in lock entry.key dir packet) ≡ envelope =
-    ap (λ (key : ℕ). envelope_in key (plain_in lock entry.key dir packet)) parts.named
-    ∙ ap (envelope_in envelope.key) parts.plain ∙ envelope_in-plain_text envelope opens.padding sealed.lawful parts.short in
+    ap (λ (key : ℕ). envelope_in key (plain_in lock entry.key dir packet)) named
+    ∙ back.envelope ring dir envelope opens.padding packet sealed in
     let behind : padding_in (plain_in lock entry.key dir packet) ≡ opens.padding =
-    ap padding_in parts.plain ∙ padding_in-plain_text envelope opens.padding parts.short in
+    back.padding ring dir envelope opens.padding packet sealed (plain_in lock entry.key dir packet) refl in
     ap (opened_under lock now dir packet) found
     ∙ worked-out-so lock now dir packet entry (envelope_in (key_named packet) (plain_in lock entry.key dir packet)) envelope
     (padding_in (plain_in lock entry.key dir packet)) opens.padding read behind opens.good (is-sealed lock ring dir envelope opens.padding packet sealed)

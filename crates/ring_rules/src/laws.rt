@@ -10,7 +10,8 @@ ghost use Rattle.server_dispatch.specs.Rings.{AreOf};
 ghost use Rattle.ring_rules.specs.Binding.{keys_of};
 ghost use Rattle.ring_rules.specs.Opening.{opened};
 
-use crate::locks::{byte_laws, locks_are_lawful, seal_laws};
+use crate::below::seal_laws;
+use envelope::laws::sealed_packets_are_read_back;
 use temp_keys::laws::{made_messages_bind, one_answer};
 
 /// What is worked out of a packet is what it opens to, under the lock of the protocol and under the one without a cipher.
@@ -20,8 +21,7 @@ pub fn packets_open_as_worked_out()
     ensures clear { (ring : List RingKey) (now : ℕ) (dir : Dir) (packet : List ℕ) (envelope : Envelope)
         → (opened clear_lock ring now dir packet ≡ Some envelope ↔ Opens clear_lock ring now dir packet envelope) }
 {
-    locks_are_lawful();
-    byte_laws();
+    sealed_packets_are_read_back();
 }
 
 /// Each ring has its keys: which are temporary, and what a binding call binds by it.

@@ -2,5 +2,5 @@
 //! binding call binds, as functions, and laws that this is what sealing and binding say of them. No code runs by it.
 #![tactic(auto)]
 
+mod below;
 pub mod laws;
-mod locks;

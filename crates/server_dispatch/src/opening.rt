@@ -1,7 +1,6 @@
 //! What a session owes first to a packet.
 
 ghost use Rattle.std.specs.Prelude.{◌≡◌, ◌≤◌, ◌<◌, ◌+◌, if◌then◌else◌, ℕ, List, [], length, vec_len, vec_capacity};
-ghost use Rattle.std.specs.List.{AllByRecursion};
 ghost use Rattle.inbox.specs.declared.judged.Judgement.{Judgement};
 ghost use Rattle.waits.specs.Jobs.{Queue};
 ghost use Rattle.server_rules.specs.Answer.{opens};
@@ -32,28 +31,21 @@ pub fn acks_in(judged: &[Judgement], acks: &mut Vec<u64>)
     ensures few { length acks.new.items ≤ length judged.now }
     ensures same_capacity { vec_capacity acks.new ≡ vec_capacity acks.old }
 {
-    let mut greatest = 0;
     for judgement in judged {
-        greatest = note(acks, greatest, judgement);
+        note(acks, judgement);
     }
 }
 
-// Puts the number of a judgement behind these, of which none is above the given one, where it is acknowledged and isn't among
-// them; which number none is above then. Numbers mostly come in order, and one above all of them isn't looked for.
-fn note(acks: &mut Vec<u64>, greatest: u64, judgement: &Judgement) -> u64
+// Puts the number of a judgement behind these where it is acknowledged and isn't among them.
+fn note(acks: &mut Vec<u64>, judgement: &Judgement)
     requires room { vec_len acks.old < vec_capacity acks.old }
-    requires below { AllByRecursion (λ number. number ≤ greatest) acks.old.items }
     ensures noted { acks.new.items ≡ noted acks.old.items judgement.now }
-    ensures below { AllByRecursion (λ number. number ≤ result) acks.new.items }
     ensures len { vec_len acks.new ≤ vec_len acks.old + 1 }
     ensures same_capacity { vec_capacity acks.new ≡ vec_capacity acks.old }
 {
-    let number = judgement.number;
-    if !is_acked(judgement) || number <= greatest && has(acks.as_slice(), number) {
-        return greatest;
+    if is_acked(judgement) && !has(acks.as_slice(), judgement.number) {
+        acks.push_reserved(judgement.number);
     }
-    acks.push_reserved(number);
-    greatest.max(number)
 }
 
 #[tactic(auto, unfolding(crate::specs::Acks::is_acked))]

@@ -25,7 +25,7 @@ use Rattle.server_rules.specs.Answer.{Answer}
 use Rattle.server_rules.specs.Server.{Server}
 use Rattle.sess_records.specs.Standing.{SpellsSome}
 use Rattle.sess_journal.specs.Keeping.{Adds, Behind, Book, ByHeard, HasCounted, IfNothingDone, IsBroken, IsFull, IsSameDisk, Journals, KeepsFor, LeavesSome, OfDisks, Refuses, Seen, StandsFor, count_of, disk_by, disk_in, event_bytes_max, journal_bytes_max, place_by}
-use Rattle.sess_journal.specs.Replay.{Bases, Reached, Replays, at_first}
+use Rattle.sess_journal.specs.Replay.{Bases, Replays, at_first}
 
 pub ok_map : {A E : Type 0} {P Q : A → Type 0} (r : Result A E) → ((value : A) → P value → Q value) → IfOk r P → IfOk r Q
 ok_map (Ok value) f h = f value h
@@ -166,17 +166,18 @@ module _ {K S D : Type 0} (bases : Bases S D) (told : K → Option DiskTold) (pl
       }
 
   -- what a call leaves, by its fault
-  pub behind_by : {A : Type 0} (bytes : ℕ) (all spare : List Record) (r : Result A DeskFault) (P : A → List Record → Type 0) → bytes ≤ event_bytes_max → length all ≤ 2
+  pub behind_by : {A : Type 0} (bytes : ℕ) (all spare : List Record) (r : Result A DeskFault) (P : A → List Record → Type 0)
       → Refuses bytes before.book r → Journals bases told entries all spare server before after r P → IfErr r (IfNothingDone (after ≡ before))
-      → OfDisks before.book after.book (IsSameDisk told place) → after.server.seal ≡ before.server.seal → IfErr r (λ fault. Behind bases told after fault server)
-  behind_by bytes all spare (Ok value) P short few refuses journal done disks seal = tt
-  behind_by bytes all spare (Err faults.Memory) P short few refuses journal done disks seal = (entries ++ journal.more, (journal.memory refl).1)
-  behind_by bytes all spare (Err faults.Closed) P short few refuses journal done disks seal = absurd (not_closed (refuses.closed.1 refl))
-  behind_by bytes all spare (Err (faults.Full len)) P short few refuses journal done disks seal =
+      → OfDisks before.book after.book (IsSameDisk told place) → after.server.seal ≡ before.server.seal → bytes ≤ event_bytes_max → length all ≤ 2
+      → IfErr r (λ fault. Behind bases told after fault server)
+  behind_by bytes all spare (Ok value) P refuses journal done disks seal short few = tt
+  behind_by bytes all spare (Err faults.Memory) P refuses journal done disks seal short few = (entries ++ journal.more, (journal.memory refl).1)
+  behind_by bytes all spare (Err faults.Closed) P refuses journal done disks seal short few = absurd (not_closed (refuses.closed.1 refl))
+  behind_by bytes all spare (Err (faults.Full len)) P refuses journal done disks seal short few =
       let full : IsFull before.book event_bytes_max len = full_longer before.book bytes event_bytes_max len short ((refuses.full len).1 refl) in (
         (entries, subst (λ (d : Seen K S D). KeepsFor bases told entries d server) (sym done) keeps),
         subst (λ (d : Seen K S D). IsFull d.book event_bytes_max len) (sym done) full,
       )
-  behind_by bytes all spare (Err faults.Disk) P short few refuses journal done disks seal =
+  behind_by bytes all spare (Err faults.Disk) P refuses journal done disks seal short few =
       let sum : length all ≡ length journal.more + length journal.back = ap (λ (l : List Record). length l) journal.front ∙ length-append journal.more journal.back in
       broke journal.more journal.adds disks seal (omega (arith, sum, few))

@@ -29,8 +29,8 @@ returns-clause-unchanged_on_full g c = λ server len stands.
 pub returns-clause-behind : goal.returns-clause-behind
 returns-clause-behind g c = λ server stands.
     let bases : Bases g.row.S.Denot g.row.D.Denot = bases_of g.S.Seal.lock g.S.Seal.keys g.D.Draw.step g.D.Seeded.standing_at g.D.Seeded.place_of in
-    behind_by bases g.K.Disk.told g.K.Disk.place stands.0 server c.args.self.now c.attach.new.self stands.1 38 _ _ c.attach.result _ (omega arith) (omega arith)
-    c.attach.ensures.refuses (c.attach.ensures.journal stands.0 server stands.1) c.attach.ensures.unchanged c.attach.ensures.same_disk c.attach.ensures.same_seal
+    behind_by bases g.K.Disk.told g.K.Disk.place stands.0 server c.args.self.now c.attach.new.self stands.1 38 _ _ c.attach.result _
+    c.attach.ensures.refuses (c.attach.ensures.journal stands.0 server stands.1) c.attach.ensures.unchanged c.attach.ensures.same_disk c.attach.ensures.same_seal (omega arith) (omega arith)
 
 pub returns-clause-counted : goal.returns-clause-counted
 returns-clause-counted g c = counts_so g.K.Disk.faults c.attach.result c.args.self.now.book c.attach.new.self.book c.has_disk.ensures c.attach.ensures.counted

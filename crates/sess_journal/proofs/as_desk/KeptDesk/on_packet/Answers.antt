@@ -46,8 +46,8 @@ returns-clause-unchanged_on_full g c = λ server len stands.
 pub returns-clause-behind : goal.returns-clause-behind
 returns-clause-behind g c = λ server stands short.
     let bases : Bases g.row.S.Denot g.row.D.Denot = bases_of g.S.Seal.lock g.S.Seal.keys g.D.Draw.step g.D.Seeded.standing_at g.D.Seeded.place_of in
-    behind_by bases g.K.Disk.told g.K.Disk.place stands.0 server c.args.self.now c.on_packet.new.self stands.1 (22 + length c.args.packet.now) _ _ c.on_packet.result _ (omega (arith, short)) (omega arith)
-    c.on_packet.ensures.refuses (c.on_packet.ensures.journal stands.0 server stands.1) c.on_packet.ensures.unchanged c.on_packet.ensures.same_disk c.on_packet.ensures.same_seal
+    behind_by bases g.K.Disk.told g.K.Disk.place stands.0 server c.args.self.now c.on_packet.new.self stands.1 (22 + length c.args.packet.now) _ _ c.on_packet.result _
+    c.on_packet.ensures.refuses (c.on_packet.ensures.journal stands.0 server stands.1) c.on_packet.ensures.unchanged c.on_packet.ensures.same_disk c.on_packet.ensures.same_seal (omega (arith, short)) (omega arith)
 
 pub returns-clause-counted : goal.returns-clause-counted
 returns-clause-counted g c = counts_so g.K.Disk.faults c.on_packet.result c.args.self.now.book c.on_packet.new.self.book c.has_disk.ensures c.on_packet.ensures.counted

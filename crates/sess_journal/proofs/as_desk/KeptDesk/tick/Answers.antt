@@ -27,8 +27,8 @@ returns-clause-unchanged_on_full g c = λ server len stands.
 pub returns-clause-behind : goal.returns-clause-behind
 returns-clause-behind g c = λ server stands.
     let bases : Bases g.row.S.Denot g.row.D.Denot = bases_of g.S.Seal.lock g.S.Seal.keys g.D.Draw.step g.D.Seeded.standing_at g.D.Seeded.place_of in
-    behind_by bases g.K.Disk.told g.K.Disk.place stands.0 server c.args.self.now c.tick.new.self stands.1 22 _ _ c.tick.result _ (omega arith) (omega arith)
-    c.tick.ensures.refuses (c.tick.ensures.journal stands.0 server stands.1) c.tick.ensures.unchanged c.tick.ensures.same_disk c.tick.ensures.same_seal
+    behind_by bases g.K.Disk.told g.K.Disk.place stands.0 server c.args.self.now c.tick.new.self stands.1 22 _ _ c.tick.result _
+    c.tick.ensures.refuses (c.tick.ensures.journal stands.0 server stands.1) c.tick.ensures.unchanged c.tick.ensures.same_disk c.tick.ensures.same_seal (omega arith) (omega arith)
 
 pub returns-clause-counted : goal.returns-clause-counted
 returns-clause-counted g c = counts_so g.K.Disk.faults c.tick.result c.args.self.now.book c.tick.new.self.book c.has_disk.ensures c.tick.ensures.counted

@@ -32,8 +32,8 @@ returns-clause-unchanged_on_full g c = λ server len stands.
 pub returns-clause-behind : goal.returns-clause-behind
 returns-clause-behind g c = λ server stands.
     let bases : Bases g.row.S.Denot g.row.D.Denot = bases_of g.S.Seal.lock g.S.Seal.keys g.D.Draw.step g.D.Seeded.standing_at g.D.Seeded.place_of in
-    behind_by bases g.K.Disk.told g.K.Disk.place stands.0 server c.args.self.now c.work.new.self stands.1 262196 _ _ c.work.result _ (omega arith) (omega arith)
-    c.work.ensures.refuses (c.work.ensures.journal stands.0 server stands.1) c.work.ensures.unchanged c.work.ensures.same_disk c.work.ensures.same_seal
+    behind_by bases g.K.Disk.told g.K.Disk.place stands.0 server c.args.self.now c.work.new.self stands.1 262196 _ _ c.work.result _
+    c.work.ensures.refuses (c.work.ensures.journal stands.0 server stands.1) c.work.ensures.unchanged c.work.ensures.same_disk c.work.ensures.same_seal (omega arith) (omega arith)
 
 pub returns-clause-same_service_on_full : goal.returns-clause-same_service_on_full
 returns-clause-same_service_on_full g c = λ len. nothing_done len c.work.result c.work.ensures.same_service
