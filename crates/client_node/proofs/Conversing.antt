@@ -5,6 +5,7 @@ use Rattle.draws.specs.Draws.{draw_after, next_bytes}
 use Rattle.envelope.specs.Packet.{Lock}
 use Rattle.transport.specs.Starts.{IsSentStart, Opening, words_drawn}
 use Rattle.transport.specs.Wires.{HasBegun, Line}
+use Rattle.mt_edge.specs.Clocks.{Gave}
 use Rattle.mt_edge.specs.Faults.{one_more}
 use Rattle.mt_edge.specs.Links.{IsFresh, Told}
 use Rattle.mt_edge.specs.Nets.{closed_at}
@@ -16,7 +17,7 @@ use Rattle.client_rules.specs.Client.{Client}
 use Rattle.client_core.specs.declared.holder.Holder.{Holder}
 use Rattle.client_node.specs.Course.{Course, Phase, Reading, attached_in, attaches, is_decided}
 use Rattle.client_node.specs.Ends.{batch_by}
-use Rattle.client_node.specs.Runs.{Conversed, Gave, HasOpened, LostSoFar, Talked, Tried}
+use Rattle.client_node.specs.Runs.{Conversed, HasOpened, LostSoFar, Talked, Tried}
 use Rattle.client_node.specs.Standing.{StandsAs, StandsFor, phase_of}
 use Rattle.client_node.specs.Talks.{Began, Close, Connection, FailsLast, Heard, PassedFront, Place, Refused, Rules, Said, Shows, ShowsClose, Stopped, TurnsDone, Unread, Unstarted, begun, drawn, rules_of}
 use Rattle.client_node.specs.Trace.{AreNoted, Attempt, ClientTrace, IsNoted, Made, UndecidedIn, after_all, all_moments}

@@ -1,5 +1,5 @@
 -- What a link and a clock tell of several steps.
-use Rattle.std.proofs.Common.{◌≡◌, ℕ, List, [], ◌∷◌, ◌++◌, length, Option, Some, None, IfNone, IfSome, IsSomeAnd, MatchOption, refl, sym, ap, subst, ◌∙◌, append_assoc, append-nil}
+use Rattle.std.proofs.Common.{◌≡◌, ℕ, List, [], ◌∷◌, ◌++◌, length, Option, Some, None, IfNone, IfSome, IsSomeAnd, MatchOption, refl, sym, ap, subst, ◌∙◌, append_assoc, append-nil, ◌<◌, ◌+◌, IsSome, length-append, arith, true, false}
 use Rattle.cipher_modes.specs.CounterMode.{CtrState}
 use Rattle.framing.specs.Held.{Held}
 use Rattle.tl_codec.specs.declared.fault.FrameFault.{FrameFault}
@@ -8,11 +8,12 @@ use Rattle.framing.specs.Streams.{Begins, Faulty, Form, Frames}
 use Rattle.transport.specs.Directions.{behind, through}
 use Rattle.transport.specs.Forms.{framing_of}
 use Rattle.transport.specs.Wires.{Hears, IsNumbered, Line, Tells}
+use Rattle.mt_edge.specs.Clocks.{Gave, told_max}
 use Rattle.mt_edge.specs.Faults.{one_more}
 use Rattle.mt_edge.specs.Links.{Told}
 use Rattle.mt_edge.specs.declared.link_read.LinkRead.{LinkRead}
 use Rattle.mt_edge.specs.declared.source.Got.{Got}
-use Rattle.client_node.specs.Runs.{Gave, ReadBy, ReadsBy}
+use Rattle.client_node.specs.Runs.{ReadBy, ReadsBy}
 use Rattle.client_node.specs.Talks.{FailsReading, FailsWriting, Passed, PassedFront, Passes, Place, Rules, Said, piece_bytes, says}
 use Rattle.client_node.specs.Writes.{Breaks, Seen, Writes, Wrote, WroteFront}
 use Rattle.transport.specs.Spelt.{Spells, frames_of}
@@ -63,16 +64,36 @@ spells_as one other to packets bytes same spells =
 
 -- ---- a clock
 
+told_none : (given : Option (List ℕ)) → IfSome given (λ later. IsSomeAnd given (λ before. later ≡ before ++ []))
+told_none None = tt
+told_none (Some given) = sym (append-nil given)
+
+told_still : (given : Option (List ℕ)) → IfSome given (λ before. length before + 0 < told_max → IsSome given)
+told_still None = tt
+told_still (Some given) = λ few. refl
+
 pub gave_none : (given : Option (List ℕ)) → Gave [] given given
-gave_none None = tt
-gave_none (Some given) = sym (append-nil given)
+gave_none given = record { told = told_none given; goes_on = told_still given }
+
+told_more : (one other : List ℕ) (first middle last : Option (List ℕ)) → Gave one first middle → Gave other middle last
+    → IfSome last (λ later. IsSomeAnd first (λ before. later ≡ before ++ (one ++ other)))
+told_more one other first middle None before after = tt
+told_more one other first None (Some last) before after = absurd after.told
+told_more one other None (Some middle) (Some last) before after = absurd before.told
+told_more one other (Some first) (Some middle) (Some last) before after =
+    after.told ∙ ap (λ (moments : List ℕ). moments ++ other) before.told ∙ append_assoc first one other
+
+still_told : (one other : List ℕ) (first middle last : Option (List ℕ)) → Gave one first middle → Gave other middle last
+    → IfSome first (λ before. length before + length (one ++ other) < told_max → IsSome last)
+still_told one other None middle last before after = tt
+still_told one other (Some first) None last before after =
+    λ few. let none : false ≡ true = before.goes_on (omega (arith, few, length-append one other)) in cc
+still_told one other (Some first) (Some middle) last before after =
+    λ few. after.goes_on (omega (arith, few, length-append one other, ap length before.told, length-append first one))
 
 pub gave_more : (one other : List ℕ) (first middle last : Option (List ℕ)) → Gave one first middle → Gave other middle last → Gave (one ++ other) first last
-gave_more one other first middle None before after = tt
-gave_more one other first None (Some last) before after = absurd after
-gave_more one other None (Some middle) (Some last) before after = absurd before
-gave_more one other (Some first) (Some middle) (Some last) before after =
-    after ∙ ap (λ (moments : List ℕ). moments ++ other) before ∙ append_assoc first one other
+gave_more one other first middle last before after =
+    record { told = told_more one other first middle last before after; goes_on = still_told one other first middle last before after }
 
 -- ---- a link: nothing yet
 

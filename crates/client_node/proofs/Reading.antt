@@ -3,13 +3,14 @@ use Rattle.std.proofs.Common.{◌≡◌, ◌<◌, ◌≤◌, ◌⊎◌, ℕ, Lis
 use Rattle.auth_keys.specs.declared.ring.RingKey.{RingKey}
 use Rattle.envelope.specs.Packet.{Lock}
 use Rattle.transport.specs.Wires.{Line}
+use Rattle.mt_edge.specs.Clocks.{Gave}
 use Rattle.mt_edge.specs.Faults.{one_more}
 use Rattle.mt_edge.specs.Got.{Counts}
 use Rattle.mt_edge.specs.Links.{ReadsOver, Told}
 use Rattle.mt_edge.specs.declared.source.Got.{Got}
 use Rattle.mt_edge.specs.declared.source.Got.TheVariants as got
 use Rattle.client_core.specs.declared.holder.Holder.{Holder}
-use Rattle.client_node.specs.Runs.{Gave, GotPiece, MissedPiece, ReadBy}
+use Rattle.client_node.specs.Runs.{GotPiece, MissedPiece, ReadBy}
 use Rattle.client_node.specs.Talks.{IsNoPiece, piece_bytes}
 use Rattle.client_node.specs.Took.{TookPiece}
 use Rattle.client_node.specs.Writes.{Seen}

@@ -8,6 +8,7 @@ use Rattle.transport.specs.Directions.{through}
 use Rattle.transport.specs.Forms.{framing_of}
 use Rattle.transport.specs.Starts.{Opening}
 use Rattle.transport.specs.Wires.{Hears, Line}
+use Rattle.mt_edge.specs.Clocks.{Gave}
 use Rattle.mt_edge.specs.Faults.{one_more}
 use Rattle.mt_edge.specs.declared.source.Got.{Got}
 use Rattle.mt_edge.specs.declared.source.Got.TheVariants as got
@@ -15,7 +16,7 @@ use Rattle.client_core.specs.Flushed.{setting_of}
 use Rattle.client_core.specs.declared.holder.Holder.{Holder}
 use Rattle.client_node.specs.Course.{Course, Reading, is_decided}
 use Rattle.client_node.specs.Flow.{AllFlushes, BreaksLast, FlowedBy, Follows, FramedBy}
-use Rattle.client_node.specs.Runs.{Gave, GotPiece, MissedPiece, ReadsBy, Talked, TookTurn, TurnsSoFar}
+use Rattle.client_node.specs.Runs.{GotPiece, MissedPiece, ReadsBy, Talked, TookTurn, TurnsSoFar}
 use Rattle.client_node.specs.Standing.{IsReading, StandsAs}
 use Rattle.client_node.specs.Talks.{AreFramed, AreWhole, EndsHearing, FailsLast, Heard, IsNoPiece, IsReady, IsSaid, IsText, Loses, Passes, Place, Rules, Said, ShowsClose, Stopped, Turn, TurnsDone, Unread, gets, hears_all, reads, rules_of, says, turned, turns_from, turns_max}
 use Rattle.client_node.specs.Took.{CameAll, IsDone, IsLost, TookAll, packets_max, takes_all}

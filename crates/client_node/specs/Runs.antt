@@ -4,6 +4,7 @@ use Rattle.auth_keys.specs.declared.ring.RingKey.{RingKey}
 use Rattle.envelope.specs.Packet.{Lock}
 use Rattle.transport.specs.Starts.{Opening}
 use Rattle.transport.specs.Wires.{Hears, Line}
+use Rattle.mt_edge.specs.Clocks.{Gave}
 use Rattle.mt_edge.specs.Faults.{one_more}
 use Rattle.mt_edge.specs.Links.{Told}
 use Rattle.mt_edge.specs.declared.net_call.NetCall.{NetCall}
@@ -20,10 +21,6 @@ use Rattle.transport.specs.Spelt.{Spells}
 use Rattle.client_node.specs.declared.end.End.{End}
 use Rattle.client_node.specs.declared.end.End.TheVariants as ends
 use Rattle.client_node.specs.declared.plan.Plan.{Plan}
-
--- what the clock gave, where it tells
-abbrev pub Gave : List ℕ → Option (List ℕ) → Option (List ℕ) → Type 0
-Gave moments before after = IfSome after (λ last. IsSomeAnd before (λ first. last ≡ first ++ moments))
 
 -- ---- a read, and what came of it
 

@@ -1,5 +1,6 @@
 -- The trace of a client: what a batch does, one connection after another (core.telegram.org/mtproto/mtproto-transports).
 use Rattle.std.specs.Prelude.{◌≡◌, ◌⊎◌, ◌≤◌, ℕ, true, false, List, [], ◌∷◌, ◌++◌, length, Option, Some, IfSome, IsSomeAnd, ⊤}
+use Rattle.mt_edge.specs.Clocks.{Gave}
 use Rattle.mt_edge.specs.Links.{IsFresh, Told}
 use Rattle.mt_edge.specs.declared.net_call.NetCall.{NetCall}
 use Rattle.mt_edge.specs.declared.net_call.NetCall.TheVariants.{Connect}
@@ -98,4 +99,4 @@ pub record ClientTrace {S : Type 0} (rules : Rules S) (plan : Plan) (course : Co
   pub undecided : UndecidedIn end (after_all rules plan course attempts).client
   pub stands : StandsAs kept draw (after_all rules plan course attempts)
   pub noted : IfSome calls_then (λ after. IsSomeAnd calls (λ before. (made : List NetCall) × (after ≡ before ++ made) × AreNoted rules plan course attempts made))
-  pub moments : IfSome given_then (λ after. IsSomeAnd given (λ before. after ≡ before ++ all_moments rules plan course attempts))
+  pub moments : Gave (all_moments rules plan course attempts) given given_then

@@ -5,8 +5,8 @@ use Rattle.disks.specs.Told.{DiskTold}
 use Rattle.draws.specs.Draws.{draw_after, next_bytes}
 use Rattle.envelope.specs.Lawful.{OpensWhatItSealed}
 use Rattle.envelope.specs.Lock.{mt_lock}
+use Rattle.mt_edge.specs.Clocks.{Gave}
 use Rattle.mt_edge.specs.Faults.{Rose}
-use Rattle.server_node.specs.Connection.{Gave}
 use Rattle.server_rules.specs.Server.{Server, fresh_server}
 use Rattle.sess_journal.specs.Keeping.{IsSameDisk, KeepsFor, Opened, Seen, count_of, disk_in, ending, place_by}
 use Rattle.sess_journal.specs.Opening.{IsKeptAfter, IsLawfulFile, disk_left}

@@ -4,7 +4,7 @@ use Rattle.auth_keys.specs.declared.ring.RingKey.{RingKey}
 use Rattle.disks.specs.Named.{Named, NamesTold}
 use Rattle.draws.specs.Draws.{draw_after, next_bytes}
 use Rattle.envelope.specs.Lock.{mt_lock}
-use Rattle.server_node.specs.Connection.{Gave}
+use Rattle.mt_edge.specs.Clocks.{Gave}
 use Rattle.server_rules.specs.Server.{Server, fresh_server}
 use Rattle.sess_journal.specs.Keeping.{ending, event_bytes_max, journal_bytes_max}
 use Rattle.sess_journal.specs.Opening.{HaveSameRecords, IsLawfulFile}

@@ -2,7 +2,7 @@
 
 ghost use Rattle.std.specs.Prelude.{◌≡◌, ◌≢◌, ◌∷◌, [], ℕ, List, Option, IfErr, IfOk, IfSome};
 ghost use Rattle.draws.specs.Draws.{draw_after, next_bytes};
-ghost use Rattle.server_node.specs.Connection.{Gave};
+ghost use Rattle.mt_edge.specs.Clocks.{Gave};
 ghost use Rattle.cmd_serve.specs.Inner.{OpensFile, ShutsFile};
 
 use auth_keys::Ring;

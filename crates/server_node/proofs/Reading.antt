@@ -1,13 +1,14 @@
 -- One read of a connection, and what came of it.
-use Rattle.std.proofs.Common.{◌≡◌, ◌<◌, ◌≤◌, ℕ, List, [], ◌∷◌, ◌++◌, length, take, Option, Some, None, IfSome, IsSomeAnd, refl, sym, ap, subst, ◌∙◌, append_assoc, append-nil, length-take, arith}
+use Rattle.std.proofs.Common.{◌≡◌, ◌<◌, ◌≤◌, ℕ, List, [], ◌∷◌, ◌++◌, length, take, Option, Some, None, IfSome, IsSomeAnd, refl, sym, ap, subst, ◌∙◌, append_assoc, append-nil, length-take, arith, ◌+◌, IsSome, length-append, true, false}
 use Rattle.auth_keys.specs.declared.ring.RingKey.{RingKey}
 use Rattle.envelope.specs.Packet.{Lock}
+use Rattle.mt_edge.specs.Clocks.{Gave, told_max}
 use Rattle.mt_edge.specs.Links.{ReadsOver, Told}
 use Rattle.mt_edge.specs.declared.link_read.LinkRead.{LinkRead}
 use Rattle.mt_edge.specs.declared.source.Got.{Got}
 use Rattle.mt_edge.specs.declared.source.Got.TheVariants as got
 use Rattle.regs_service.specs.Served.{Step}
-use Rattle.server_node.specs.Connection.{Gave, IsNoPiece, IsPieceSize, BreaksBy, IsText, Passed, PassedBy, Place, ShowsClose, Sight, Turn, Unread, closes, end_of_read, gets, reads, turned}
+use Rattle.server_node.specs.Connection.{IsNoPiece, IsPieceSize, BreaksBy, IsText, Passed, PassedBy, Place, ShowsClose, Sight, Turn, Unread, closes, end_of_read, gets, reads, turned}
 use Rattle.server_node.specs.Doing.{Side, Stands, StandsBy}
 use Rattle.server_node.specs.Record.{piece_bytes}
 use Rattle.server_node.specs.Trace.{Rules, Talk, rules_of}
@@ -107,11 +108,25 @@ passed_by_at ends.Memory = passed_at
 
 -- ---- what a clock gave
 
+told_more : (one other : List ℕ) (first middle last : Option (List ℕ)) → Gave one first middle → Gave other middle last
+    → IfSome last (λ later. IsSomeAnd first (λ before. later ≡ before ++ (one ++ other)))
+told_more one other first middle None before after = tt
+told_more one other first None (Some last) before after = absurd after.told
+told_more one other None (Some middle) (Some last) before after = absurd before.told
+told_more one other (Some first) (Some middle) (Some last) before after =
+    after.told ∙ ap (λ (moments : List ℕ). moments ++ other) before.told ∙ append_assoc first one other
+
+still_told : (one other : List ℕ) (first middle last : Option (List ℕ)) → Gave one first middle → Gave other middle last
+    → IfSome first (λ before. length before + length (one ++ other) < told_max → IsSome last)
+still_told one other None middle last before after = tt
+still_told one other (Some first) None last before after =
+    λ few. let none : false ≡ true = before.goes_on (omega (arith, few, length-append one other)) in cc
+still_told one other (Some first) (Some middle) last before after =
+    λ few. after.goes_on (omega (arith, few, length-append one other, ap length before.told, length-append first one))
+
 gave_more : (one : List ℕ) (now : ℕ) (first middle last : Option (List ℕ)) → Gave one first middle → Gave (now ∷ []) middle last → Gave (one ++ now ∷ []) first last
-gave_more one now first middle None before after = tt
-gave_more one now first None (Some last) before after = absurd after
-gave_more one now None (Some middle) (Some last) before after = absurd before
-gave_more one now (Some first) (Some middle) (Some last) before after = after ∙ ap (λ (moments : List ℕ). moments ++ now ∷ []) before ∙ append_assoc first one (now ∷ [])
+gave_more one now first middle last before after =
+    record { told = told_more one (now ∷ []) first middle last before after; goes_on = still_told one (now ∷ []) first middle last before after }
 
 -- ---- a turn
 

@@ -1,12 +1,13 @@
 -- The turns of a connection, one after the other, and how it closes.
-use Rattle.std.proofs.Common.{◌≡◌, ◌<◌, ◌+◌, ℕ, List, [], ◌∷◌, ◌++◌, length, Option, Some, None, IfSome, IsSomeAnd, inl, refl, sym, ap, subst, ◌∙◌, append-nil, length-append, arith}
+use Rattle.std.proofs.Common.{◌≡◌, ◌<◌, ◌+◌, ℕ, List, [], ◌∷◌, ◌++◌, length, Option, Some, None, IfSome, IsSomeAnd, inl, refl, sym, ap, subst, ◌∙◌, append-nil, length-append, arith, IsSome}
 use Rattle.auth_keys.specs.declared.ring.RingKey.{RingKey}
 use Rattle.envelope.specs.Packet.{Lock}
+use Rattle.mt_edge.specs.Clocks.{Gave, told_max}
 use Rattle.mt_edge.specs.Links.{Told}
 use Rattle.regs_service.specs.Served.{Step}
 use Rattle.server_core.specs.declared.desk.DeskFault.{DeskFault}
 use Rattle.server_rules.specs.Server.{Server}
-use Rattle.server_node.specs.Connection.{Gave, Passed, Place, ServerTrace, Sight, Spent, Unbegun, began, turns_from}
+use Rattle.server_node.specs.Connection.{Passed, Place, ServerTrace, Sight, Spent, Unbegun, began, turns_from}
 use Rattle.server_node.specs.Doing.{Side, StandsBy}
 use Rattle.server_node.specs.Record.{turns_max, with_answered}
 use Rattle.server_node.specs.Served.{Begins, LeavesBy}
@@ -24,9 +25,16 @@ passed_none : {S V : Type 0} (talk : Talk S V) (told : Option Told) → IfSome t
 passed_none talk None = tt
 passed_none talk (Some told) = record { written = sym (append-nil told.written); came = sym (append-nil told.came); reads = sym (append-nil told.reads) }
 
+told_none : (given : Option (List ℕ)) → IfSome given (λ later. IsSomeAnd given (λ before. later ≡ before ++ []))
+told_none None = tt
+told_none (Some given) = sym (append-nil given)
+
+told_still : (given : Option (List ℕ)) → IfSome given (λ before. length before + 0 < told_max → IsSome given)
+told_still None = tt
+told_still (Some given) = λ few. refl
+
 gave_none : (given : Option (List ℕ)) → Gave [] given given
-gave_none None = tt
-gave_none (Some given) = sym (append-nil given)
+gave_none given = record { told = told_none given; goes_on = told_still given }
 
 answered_none : (left : Option ℕ) → left ≡ with_answered 0 left
 answered_none None = refl

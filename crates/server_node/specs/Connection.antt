@@ -2,6 +2,7 @@
 -- packets that came, the events, and the bytes that they owe (core.telegram.org/mtproto/mtproto-transports).
 use Rattle.std.specs.Prelude.{◌≡◌, ◌≢◌, ◌<◌, ◌≤◌, ◌⊎◌, ℕ, List, [], ◌∷◌, ◌++◌, length, Option, IfSome, IsSomeAnd, ⊤}
 use Rattle.framing.specs.Streams.{Begins, Faulty, Stream}
+use Rattle.mt_edge.specs.Clocks.{Gave}
 use Rattle.mt_edge.specs.Links.{Told}
 use Rattle.mt_edge.specs.declared.link_read.LinkRead.{LinkRead}
 use Rattle.mt_edge.specs.declared.source.Got.{Got}
@@ -335,10 +336,6 @@ BreaksBy rules (Hearing piece now packets packet acts end) place bytes before af
     BreaksIn end rules (hears rules now packets (gets piece now place)) acts bytes before after
 BreaksBy rules (Working turn acts end) place bytes before after =
     BreaksIn end rules (hears rules turn.now turn.packets (gets turn.piece turn.now place)) acts bytes before after
-
--- what the clock gave, where it tells
-abbrev pub Gave : List ℕ → Option (List ℕ) → Option (List ℕ) → Type 0
-Gave moments before after = IfSome after (λ last. IsSomeAnd before (λ first. last ≡ first ++ moments))
 
 -- ---- the trace
 

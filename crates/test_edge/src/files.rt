@@ -4,11 +4,14 @@ ghost use Rattle.std.specs.Prelude.{◌≡◌, ◌++◌, IfSome, IsSomeAnd};
 ghost use Rattle.disks.specs.Crash.{synced_at};
 ghost use Rattle.disks.specs.Told.{now};
 
-use disks::{Disk, DiskCall, DiskLen, DiskOpen, Disks, FileDisks, MemDisk, MemDisks, MemFile};
+use disks::{
+    Disk, DiskCall, DiskLen, DiskOpen, Disks, FileDisk, FileDisks, MemDisk, MemDisks, MemFile,
+};
 use mt_edge::Act;
 use octets::Octets;
 use std::alloc::Global;
-use std::fs;
+use std::fs::{self, Files, OpenFile};
+use std::io::{Read, Seek, Write};
 use std::test::Fail;
 use test_asserts::{holds, same, shown, shows};
 
@@ -170,7 +173,7 @@ fn files_in_memory_by_name(rt: HostRuntime) -> Result<(), Fail> {
 }
 
 /// What is written of a file is there, and is cut.
-fn is_kept<K: Disk>(disk: &mut K) -> Result<(), Fail> {
+fn is_kept<F: Read + Write + Seek + OpenFile + Drop>(disk: &mut FileDisk<F>) -> Result<(), Fail> {
     same(add(disk, b"abc"), Act::Ready)?;
     same((disk.cut(1), disk.len()), (Act::Ready, DiskLen::Len(1)))?;
     same(
@@ -185,7 +188,7 @@ fn is_kept<K: Disk>(disk: &mut K) -> Result<(), Fail> {
 }
 
 /// The same of the file of this name.
-fn keep<D: Disks>(disks: &mut D, name: &str) -> Result<(), Fail> {
+fn keep<R: Files + Drop>(disks: &mut FileDisks<R>, name: &str) -> Result<(), Fail> {
     match disks.open(name) {
         DiskOpen::Disk(mut disk) => {
             let kept = is_kept(&mut disk);

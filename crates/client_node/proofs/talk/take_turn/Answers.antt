@@ -9,7 +9,7 @@ returns-in-Ok-clause-turn g c = (
   got_piece g.D.Draw.step g.S.Seal.lock (g.S.Seal.keys c.args.seal.now) c.args.client c.args.draw.now c.args.wire.now (seen (g.L.Link.told c.args.link.now) (g.L.Link.faults c.args.link.now)) (g.C.Clock.given c.args.clock.now)
       c.read.new.into c.in-Bytes.count c.now-now.result _ c.take_piece-client.result.0 c.take_piece-client.new.draw c.take_piece-client.new.wire
       (seen (g.L.Link.told c.read.new.self) (g.L.Link.faults c.read.new.self)) (g.C.Clock.given c.now-now.new.self)
-      (c.read.auto.into ∙ c.requires.room) c.in-Bytes.ensures.within c.in-Bytes.ensures.told c.in-Bytes.ensures.counted c.now-now.ensures.told
+      (c.read.auto.into ∙ c.requires.room) c.in-Bytes.ensures.within c.in-Bytes.ensures.told c.in-Bytes.ensures.counted (record { told = c.now-now.ensures.told; goes_on = c.now-now.ensures.goes_on })
       (rw (c.in-Ok.is) at c.take_piece-client.ensures.took),
 )
 
@@ -21,7 +21,7 @@ returns-in-Err-clause-turn g c =
       got_piece g.D.Draw.step g.S.Seal.lock (g.S.Seal.keys c.args.seal.now) c.args.client c.args.draw.now c.args.wire.now (seen (g.L.Link.told c.args.link.now) (g.L.Link.faults c.args.link.now)) (g.C.Clock.given c.args.clock.now)
           c.read.new.into c.in-Bytes.count c.now-now.result _ c.take_piece-client.result.0 c.take_piece-client.new.draw c.take_piece-client.new.wire
           (seen (g.L.Link.told c.read.new.self) (g.L.Link.faults c.read.new.self)) (g.C.Clock.given c.now-now.new.self)
-          (c.read.auto.into ∙ c.requires.room) c.in-Bytes.ensures.within c.in-Bytes.ensures.told c.in-Bytes.ensures.counted c.now-now.ensures.told
+          (c.read.auto.into ∙ c.requires.room) c.in-Bytes.ensures.within c.in-Bytes.ensures.told c.in-Bytes.ensures.counted (record { told = c.now-now.ensures.told; goes_on = c.now-now.ensures.goes_on })
           (rw (c.in-Err.is) at c.take_piece-client.ensures.took),
     )
 

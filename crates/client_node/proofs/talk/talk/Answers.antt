@@ -20,7 +20,7 @@ pub returns-in-Err-clause-conversed : goal.returns-in-Err-clause-conversed
 returns-in-Err-clause-conversed g c course reading read_so stands some =
     refused (rules_of g.D.Draw.step g.S.Seal.lock (g.S.Seal.keys c.args.seal.now) reading) c.args.plan.now course (seen (g.L.Link.told c.args.link.now) (g.L.Link.faults c.args.link.now))
     (g.C.Clock.given c.args.clock.now) (g.C.Clock.given c.now-now.new.self) c.now-now.result c.args.client c.client.new.draw
-    (subst (λ drawn. StandsAs c.args.client drawn course) (sym c.in-Err.ensures.unchanged_on_memory) stands) c.now-now.ensures.told
+    (subst (λ drawn. StandsAs c.args.client drawn course) (sym c.in-Err.ensures.unchanged_on_memory) stands) (record { told = c.now-now.ensures.told; goes_on = c.now-now.ensures.goes_on })
 
 pub returns-in-Err-send-clause-conversed : goal.returns-in-Err-send-clause-conversed
 returns-in-Err-send-clause-conversed g c course reading read_so stands some =
@@ -30,7 +30,7 @@ returns-in-Err-send-clause-conversed g c course reading read_so stands some =
     (subst (λ (bytes : List ℕ). IfSome (g.L.Link.told c.send.new.link) (λ last. IsSomeAnd (g.L.Link.told c.args.link.now) (λ first. WroteFront [] bytes first last))) c.as_slice.ensures.value
     (subst (λ (end : End). WritesSo c.as_slice.result.now (g.L.Link.told c.args.link.now) (g.L.Link.told c.send.new.link) end) c.in-Err-send.ensures.fails c.in-Err-send.ensures.told))
     (subst (λ (end : End). CountsBy {X = Unit} (Err end) (g.L.Link.faults c.args.link.now) (g.L.Link.faults c.send.new.link)) c.in-Err-send.ensures.fails c.in-Err-send.ensures.counted)
-    c.now-now.ensures.told
+    (record { told = c.now-now.ensures.told; goes_on = c.now-now.ensures.goes_on })
 
 pub returns-clause-conversed : goal.returns-clause-conversed
 returns-clause-conversed g c course reading read_so stands some =
@@ -46,5 +46,5 @@ returns-clause-conversed g c course reading read_so stands some =
     c.take_turns.result.1 c.args.draw.now c.take_turns.result.0 c.take_turns.new.draw stands.draw its c.in-Ok.ensures.sent
     (subst (λ (bytes : List ℕ). Writes bytes (seen (g.L.Link.told c.args.link.now) (g.L.Link.faults c.args.link.now)) (seen (g.L.Link.told c.send.new.link) (g.L.Link.faults c.send.new.link))) c.as_slice.ensures.value
     (record { told = c.in_default.ensures.told; faults = c.in_default.ensures.counted }))
-    c.now-now.ensures.told
+    (record { told = c.now-now.ensures.told; goes_on = c.now-now.ensures.goes_on })
     (c.take_turns.ensures.talked (renews g.D.Draw.step (attaches (drawn rules c.args.plan.now course))) reading its.opening read_so renewed undecided (opened c.in-Ok.begun.0 c.args.plan.now.form c.in-Ok.begun.1 its))
