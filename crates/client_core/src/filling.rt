@@ -7,10 +7,12 @@ ghost use Rattle.service_tl.specs.declared.lists.Message.{Message};
 ghost use Rattle.service_tl.specs.Items.{spelling_of};
 ghost use Rattle.byteorder.specs.Endian.{little_bytes};
 ghost use Rattle.containers.specs.Container.{bytes_max, container_head, message_head, messages_max, row};
+ghost use Rattle.envelope.specs.Packet.{sealed_size, to_seal};
 ghost use Rattle.packing.specs.Packing.{packed};
 ghost use Rattle.client_rules.specs.Asking.{body_bytes_max};
 ghost use Rattle.client_rules.specs.Filling.{body_behind};
 ghost use Rattle.client_core.specs.Calling.{call_message, wrap_bytes};
+ghost use Rattle.client_core.specs.Filled.{CanBeSealed, body_in};
 ghost use Rattle.client_core.specs.Draft.{CanBeSaid, HasRoomFor, Holds, TakesUp, enters, filled_up, item_of, needs_answer, nothing_yet, said_bytes, said_message};
 
 use crate::calling::{put_call, sizes_of_calls, wrap_size};
@@ -19,20 +21,21 @@ use containers::laws::container_sizes;
 use containers::{
     CONTAINER_BYTES_MAX, CONTAINER_HEAD_BYTES, CONTAINER_MESSAGES_MAX, MESSAGE_HEAD_BYTES, fits,
 };
+use envelope::SEALED_HEAD_BYTES;
 use msg_ids::{Moment, Numbers};
-use octets::{Buffer, IdList, Memory, Octets};
+use octets::{Buffer, IdList, Memory};
 use service_tl::MSG_CONTAINER;
 use std::alloc::Global;
 use std::marker::Model;
 
-/// What a packet was filled with: how many messages, the last one's number and seq, the packet's body, and the numbers of
-/// the calls in it and of the binding.
+/// What a packet was filled with: how many messages, the last one's number and seq, the packet's body behind room for what
+/// a seal puts in front, and the numbers of the calls in it and of the binding.
 #[derive(Drop)]
 pub(crate) struct Filled {
     pub(crate) count: usize,
     pub(crate) number: u64,
     pub(crate) seq: u32,
-    pub(crate) body: Octets,
+    pub(crate) text: Buffer,
     pub(crate) inner: IdList,
 }
 
@@ -203,18 +206,16 @@ impl Draft {
         self.is_full
     }
 
-    /// The packet's body, in room that was taken before. What room the numbers leave over is given up.
-    pub(crate) fn finish(self, mut body: Buffer) -> Filled
-        requires empty { body.bytes ≡ [] }
-        requires room { container_head + length self.rows ≤ body.room }
-        ensures fits { length result.body ≤ container_head + length self.rows }
+    /// What it was filled with, in room for its packet that was taken before. What room the numbers leave over is given up.
+    pub(crate) fn finish(self, mut packet: Buffer) -> Filled
+        requires empty { packet.bytes ≡ [] }
+        requires room { sealed_size (container_head + length self.rows) ≤ packet.room }
+        ensures can_be_sealed { CanBeSealed result }
         ensures count { result.count ≡ self.count }
-        ensures body { (messages : List Message) → Holds self messages → result.body ≡ packed messages }
+        ensures body { (messages : List Message) → Holds self messages → body_in result ≡ packed messages }
         ensures number { result.number ≡ self.number }
         ensures seq { result.seq ≡ self.seq }
         ensures inner { result.inner ≡ self.inner }
-        ensures words { length result.body % 4 ≡ 0 }
-        ensures short { length result.body ≤ bytes_max }
         ensures few { result.count ≤ messages_max }
     {
         let Draft {
@@ -226,12 +227,12 @@ impl Draft {
             seq,
         } = self;
         inner.shrink_to_fit();
-        put_packet(&mut body, count, rows.as_slice());
+        put_packet(&mut packet, count, rows.as_slice());
         Filled {
             count,
             number,
             seq,
-            body: body.into_octets(),
+            text: packet,
             inner: IdList::from(inner),
         }
     }
@@ -272,24 +273,27 @@ fn put_said(rows: &mut Buffer, number: u64, seq: u32, said: &Outgoing<'_>)
     spell(rows, said);
 }
 
-// Puts the body of a packet at the end, of so many messages as they stand in a container.
-fn put_packet(body: &mut Buffer, count: usize, rows: &[u8])
+// Puts the body of a packet of so many messages as they stand in a container, behind room for what a seal puts in front.
+fn put_packet(packet: &mut Buffer, count: usize, rows: &[u8])
     requires few { count ≤ messages_max }
     requires heads { message_head * count ≤ length rows.now }
-    requires room { container_head + length rows.now ≤ body.old.room }
+    requires room { 56 + (container_head + length rows.now) ≤ packet.old.room }
     requires words { length rows.now % 4 ≡ 0 }
-    requires empty { body.old.bytes ≡ [] }
-    ensures packet { (messages : List Message) → rows.now ≡ flat_map row messages → count ≡ length messages → body.new.bytes ≡ packed messages }
-    ensures words { length body.new.bytes % 4 ≡ 0 }
-    ensures short { length body.new.bytes ≤ container_head + length rows.now }
+    requires empty { packet.old.bytes ≡ [] }
+    ensures packet { (messages : List Message) → rows.now ≡ flat_map row messages → count ≡ length messages → to_seal packet.new.bytes ≡ packed messages }
+    ensures front { 56 ≤ length packet.new.bytes }
+    ensures words { length (to_seal packet.new.bytes) % 4 ≡ 0 }
+    ensures short { length (to_seal packet.new.bytes) ≤ container_head + length rows.now }
+    ensures room { length packet.new.bytes + packet.new.room ≡ packet.old.room }
 {
+    packet.push_all(&[0; SEALED_HEAD_BYTES]);
     if count == 1 {
-        body.push_all(&rows[MESSAGE_HEAD_BYTES..]);
+        packet.push_all(&rows[MESSAGE_HEAD_BYTES..]);
         return;
     }
-    body.push_all(&MSG_CONTAINER.to_le_bytes());
-    body.push_all(&(count as u32).to_le_bytes());
-    body.push_all(rows);
+    packet.push_all(&MSG_CONTAINER.to_le_bytes());
+    packet.push_all(&(count as u32).to_le_bytes());
+    packet.push_all(rows);
 }
 
 // Puts the head of a message whose body comes next.

@@ -48,15 +48,14 @@ pub enum Flush {
     Memory,
 }
 
-/// Room for a packet: for lists of the acknowledgements and of the numbers of calls, a binding call, the messages, the
-/// packet's body and the packet.
+/// Room for a packet: for lists of the acknowledgements and of the numbers of calls, a binding call, the messages, and the
+/// packet.
 #[derive(Drop)]
 pub(crate) struct PacketRoom {
     acks: Vec<u64>,
     states: Vec<u64>,
     binding: BindRoom,
     draft: Draft,
-    body: Buffer,
     packet: Buffer,
 }
 
@@ -70,8 +69,6 @@ impl PacketRoom {
         ensures states { IfOk result (λ room. states ≤ vec_capacity room.states) }
         ensures binding { IfOk result (λ room. HasRoom room.binding) }
         ensures draft { IfOk result (λ room. room.draft ≡ record nothing_yet { room = bytes }) }
-        ensures no_body { IfOk result (λ room. room.body.bytes ≡ []) }
-        ensures body { IfOk result (λ room. container_head + bytes ≤ room.body.room) }
         ensures no_packet { IfOk result (λ room. room.packet.bytes ≡ []) }
         ensures packet { IfOk result (λ room. sealed_size (container_head + bytes) ≤ room.packet.room) }
     {
@@ -81,7 +78,6 @@ impl PacketRoom {
             states: Vec::with_capacity(alloc, states)?,
             binding: BindRoom::new(alloc)?,
             draft: Draft::new(alloc, bytes)?,
-            body: Buffer::new(alloc, CONTAINER_HEAD_BYTES + bytes)?,
             packet: Buffer::new(alloc, packet_bytes(CONTAINER_HEAD_BYTES + bytes))?,
         })
     }
@@ -107,8 +103,6 @@ impl Core {
         requires binding { HasRoom room.binding }
         requires draft { room.draft ≡ record nothing_yet { room = room.draft.room } }
         requires owed { HasRoomFor (owed_bytes self.old) room.draft }
-        requires no_body { room.body.bytes ≡ [] }
-        requires body { container_head + room.draft.room ≤ room.body.room }
         requires no_packet { room.packet.bytes ≡ [] }
         requires packet { sealed_size (container_head + room.draft.room) ≤ room.packet.room }
         ensures sent { (client : Client) → Stands self.old client
@@ -122,12 +116,11 @@ impl Core {
             states,
             binding,
             mut draft,
-            body,
             packet,
         } = room;
         self.at(now);
         self.fills(&mut draft, acks, states, binding, seal, draw);
-        self.send_draft(draft, body, packet, seal, draw)
+        self.send_draft(draft, packet, seal, draw)
     }
 
     /// Takes room for what waits and sends a packet of it, where it has a message.

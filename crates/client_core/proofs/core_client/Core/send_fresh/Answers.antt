@@ -27,10 +27,6 @@ pub fills-requires-clause-bytes : goal.fills-requires-clause-bytes
 fills-requires-clause-bytes g c =
     room_less _ _ _ (omega (arith, ap (λ (waiting : Waiting). told_on waiting c.at.new.self.calls.rows) c.at.ensures.waiting, ap (λ (calls : Calls). list_bytes (length calls.acks) + told_on c.args.self.now.rest.waiting calls.rows + (drops_bytes calls.rows + front_bytes (holds_back c.args.self.now.rest.temporary) messages_max calls.rows)) c.at.ensures.calls, ap (λ temporary. front_bytes (holds_back temporary) messages_max c.at.new.self.calls.rows) c.at.ensures.temporary, ap (λ (calls : Calls). list_bytes (length calls.acks)) c.at.ensures.calls, ap (λ (calls : Calls). told_on c.args.self.now.rest.waiting calls.rows) c.at.ensures.calls)) c.requires.owed
 
-pub send_draft-requires-clause-body_room : goal.send_draft-requires-clause-body_room
-send_draft-requires-clause-body_room g c =
-    omega (arith, c.requires.body, c.fills.ensures.same_room, ap (λ (draft : Draft). length draft.rows) c.requires.draft)
-
 pub send_draft-requires-clause-room : goal.send_draft-requires-clause-room
 send_draft-requires-clause-room g c =
     let few = sealed_more (8 + length c.fills.new.draft.rows) (8 + c.args.room.draft.room) (omega (arith, c.fills.ensures.same_room, ap (λ (draft : Draft). length draft.rows) c.requires.draft)) in
