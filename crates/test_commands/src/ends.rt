@@ -15,12 +15,19 @@ const ANSWER_BYTES: usize = 280;
 
 /// How a batch of one call ended over a connection on which these bytes come, and a second one on which those come.
 fn over_two(alloc: Global, first: &[u8], second: &[u8]) -> Result<Ended, Fail> {
+    let call = format!(in alloc; "{CALL} --retries 1")?;
+    let mut net = net_of_two(alloc, first, second)?;
+    let ended = ran_over(alloc, call.as_str(), b"add x 5\n", &mut net, 1);
+    drop(net);
+    ended
+}
+
+/// A net of two links, over which these bytes come.
+fn net_of_two(alloc: Global, first: &[u8], second: &[u8]) -> Result<MemNet, Fail> {
     let mut links = Vec::new(alloc);
     links.push(MemLink::new(alloc, second, ANSWER_BYTES, &[], ROOM_BYTES, 64)?)?;
     links.push(MemLink::new(alloc, first, ANSWER_BYTES, &[], ROOM_BYTES, 64)?)?;
-    let mut net = MemNet::new(alloc, links, &[], 4)?;
-    let call = format!(in alloc; "{CALL} --retries 1")?;
-    ran_over(alloc, call.as_str(), b"add x 5\n", &mut net, 1)
+    Ok(MemNet::new(alloc, links, &[], 4)?)
 }
 
 // The call was sent to the first server, which can't be asked any more; the second one has no session of the client's.

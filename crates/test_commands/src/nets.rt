@@ -109,8 +109,24 @@ fn status_over(
     )
 }
 
-/// The status of these words with this input, output, files and net, with words drawn from this seed.
+/// The status of these words with this script, output, files and net, with words drawn from this seed.
 fn status_of(
+    alloc: Global,
+    words: &[String],
+    script: &[u8],
+    out: &mut MemSink,
+    files: &mut MemFiles,
+    net: &mut MemNet,
+    seed: u8,
+) -> Result<u8, Fail> {
+    let mut input = MemSource::new(alloc, script, ROOM_BYTES, &[])?;
+    let status = status_from(alloc, words, &mut input, out, files, net, seed);
+    drop(input);
+    status
+}
+
+/// The same with an input.
+fn status_from(
     alloc: Global,
     words: &[String],
     input: &mut MemSource,
@@ -120,7 +136,25 @@ fn status_of(
     seed: u8,
 ) -> Result<u8, Fail> {
     let mut others = make_others(alloc, seed)?;
-    Ok(status_over(alloc, words, input, out, files, net, &mut others))
+    let status = status_over(alloc, words, input, out, files, net, &mut others);
+    drop(others);
+    Ok(status)
+}
+
+/// The status of these words with this script, files and net, and what they write.
+fn told_of(
+    alloc: Global,
+    words: &[String],
+    script: &[u8],
+    files: &mut MemFiles,
+    net: &mut MemNet,
+    seed: u8,
+) -> Result<(u8, Octets), Fail> {
+    let mut out = MemSink::new(alloc, ROOM_BYTES, ROOM_BYTES, &[])?;
+    let status = status_of(alloc, words, script, &mut out, files, net, seed);
+    let written = Octets::copy(alloc, out.written());
+    drop(out);
+    Ok((status?, written?))
 }
 
 /// How a run of these words ended, what it wrote, and what it wrote over its last connection.
@@ -140,7 +174,9 @@ pub(crate) fn ran(
     seed: u8,
 ) -> Result<Ended, Fail> {
     let mut net = net(alloc, come)?;
-    ran_over(alloc, line, script, &mut net, seed)
+    let ended = ran_over(alloc, line, script, &mut net, seed);
+    drop(net);
+    ended
 }
 
 /// The same over a net.
@@ -151,21 +187,23 @@ pub(crate) fn ran_over(
     net: &mut MemNet,
     seed: u8,
 ) -> Result<Ended, Fail> {
-    let mut input = MemSource::new(alloc, script, ROOM_BYTES, &[])?;
-    let mut out = MemSink::new(alloc, ROOM_BYTES, ROOM_BYTES, &[])?;
     let words = words_of(alloc, line)?;
-    let status = status_of(
-        alloc,
-        words.as_slice(),
-        &mut input,
-        &mut out,
-        &mut files(alloc)?,
-        net,
-        seed,
-    )?;
-    Ok(Ended {
-        status,
-        out: Octets::copy(alloc, out.written())?,
-        sent: Octets::copy(alloc, written(net))?,
-    })
+    let ended = ran_words(alloc, words.as_slice(), script, net, seed);
+    drop(words);
+    ended
+}
+
+fn ran_words(
+    alloc: Global,
+    words: &[String],
+    script: &[u8],
+    net: &mut MemNet,
+    seed: u8,
+) -> Result<Ended, Fail> {
+    let mut files = files(alloc)?;
+    let told = told_of(alloc, words, script, &mut files, net, seed);
+    drop(files);
+    let (status, out) = told?;
+    let sent = Octets::copy(alloc, written(net))?;
+    Ok(Ended { status, out, sent })
 }
