@@ -1,8 +1,8 @@
 -- Numbers of a list, each once.
-use Rattle.std.proofs.Common.{◌≡◌, ◌∙◌, ◌+◌, ◌<◌, ℕ, Bool, true, false, List, [], ◌∷◌, ◌++◌, ap, sym, refl, inl, inr, take, length, get_or, map, fold, append-nil, append_assoc}
-use Rattle.std.specs.Prelude.{not, ◌==◌, if◌then◌else◌}
-use Rattle.std.specs.List.{filter, list_any}
-use Rattle.std.proofs.lemmas.Bool.{cases_Bool, eqb-true, eq-eqb, false≢true}
+use Rattle.std.proofs.Common.{◌≡◌, ◌∙◌, ◌+◌, ◌<◌, ◌≤◌, ℕ, Bool, true, false, List, [], ◌∷◌, ◌++◌, if◌then◌else◌, ap, sym, refl, inl, inr, arith, take, length, get_or, map, fold, append-nil, append_assoc}
+use Rattle.std.specs.Prelude.{not, ◌==◌, ◌&&◌}
+use Rattle.std.specs.List.{AllByRecursion, filter, list_any}
+use Rattle.std.proofs.lemmas.Bool.{cases_Bool, eqb-true, eq-eqb, ne_eqb, false≢true}
 use Rattle.std.proofs.lemmas.List.{take_more}
 use Rattle.std.proofs.lemmas.Grind.{fold-append}
 use Rattle.std.proofs.lemmas.List.Elements.{filter-append}
@@ -112,3 +112,31 @@ pub noted-more : (judged : List Judgement) (place : ℕ) (one : Judgement) → p
 noted-more judged place one within =
     ap (λ (some : List Judgement). fold noted [] some) (take_more judged place one within)
     ∙ fold-append noted [] (take place judged) (get_or judged place one ∷ [])
+
+-- a number that is above all isn't among them
+pub above_absent : (number greatest : ℕ) (numbers : List ℕ) → greatest < number → AllByRecursion (λ one. one ≤ greatest) numbers → among number numbers ≡ false
+above_absent number greatest [] above below = refl
+above_absent number greatest (one ∷ numbers) above below =
+    let other : (one == number) ≡ false = ne_eqb one number (λ same. omega (arith, above, below.0)) in
+    rw other (above_absent number greatest numbers above below.1)
+
+-- none is above a number that is at least as great
+raised : (greatest most : ℕ) (numbers : List ℕ) → greatest ≤ most → AllByRecursion (λ one. one ≤ greatest) numbers → AllByRecursion (λ one. one ≤ most) numbers
+raised greatest most [] le below = below
+raised greatest most (one ∷ numbers) le below = (omega (arith, le, below.0), raised greatest most numbers le below.1)
+
+behind : (number greatest most : ℕ) (numbers : List ℕ) → greatest ≤ most → number ≤ most → AllByRecursion (λ one. one ≤ greatest) numbers
+    → AllByRecursion (λ one. one ≤ most) (numbers ++ number ∷ [])
+behind number greatest most [] le own below = (own, tt)
+behind number greatest most (one ∷ numbers) le own below = (omega (arith, le, below.0), behind number greatest most numbers le own below.1)
+
+by_noted : (numbers : List ℕ) (number greatest most : ℕ) (is : Bool) → greatest ≤ most → number ≤ most → AllByRecursion (λ one. one ≤ greatest) numbers
+    → AllByRecursion (λ one. one ≤ most) (if is then numbers ++ number ∷ [] else numbers)
+by_noted numbers number greatest most true le own below = behind number greatest most numbers le own below
+by_noted numbers number greatest most false le own below = raised greatest most numbers le below
+
+-- with what is noted of a judgement none is above a number that is at least as great as those before it and as its own
+pub below_noted : (numbers : List ℕ) (one : Judgement) (greatest most : ℕ) → greatest ≤ most → one.number ≤ most → AllByRecursion (λ number. number ≤ greatest) numbers
+    → AllByRecursion (λ number. number ≤ most) (noted numbers one)
+below_noted numbers one greatest most le own below =
+    by_noted numbers one.number greatest most (is_acked one && not (list_any (λ other. other == one.number) numbers)) le own below
