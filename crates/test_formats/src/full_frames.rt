@@ -7,6 +7,7 @@ ghost use Rattle.framing.specs.Streams.{Begins};
 ghost use Rattle.framing.specs.Holding.{Stands};
 ghost use Rattle.frame_full.specs.Full.{full, frame_of};
 
+use crate::feeding::{Frames, Given, put_next, read};
 use frame_full::{Deframer, FrameFault, Framer, Next};
 use octets::{Memory, Octets};
 use std::alloc::Global;
@@ -81,55 +82,14 @@ fn written_and_read(
     read_one(deframer, alloc, &text, into)
 }
 
-// The packets that are there, so many at most, are put behind a text; the fault behind them.
-fn drain(
-    deframer: &mut Deframer,
-    alloc: Global,
-    text: &mut Octets,
-    most: usize,
-) -> Result<Option<FrameFault>, Memory> {
-    for _ in 0..most {
-        match deframer.next() {
-            Next::Packet(packet) => text.push_all(alloc, packet)?,
-            Next::More => break,
-            Next::Fault(fault) => return Ok(Some(fault)),
-        }
+impl Frames for Deframer {
+    fn take(&mut self, alloc: Global, piece: &[u8]) -> Result<(), Memory> {
+        self.feed(alloc, piece)
     }
-    Ok(None)
-}
 
-// The same of a stream that is fed in pieces of this size.
-fn feed(
-    deframer: &mut Deframer,
-    alloc: Global,
-    stream: &[u8],
-    size: usize,
-    text: &mut Octets,
-) -> Result<Option<FrameFault>, Memory> {
-    for piece in stream.chunks(size.max(1)) {
-        deframer.feed(alloc, piece)?;
-        let fault = drain(deframer, alloc, text, stream.len())?;
-        if fault.is_some() {
-            return Ok(fault);
-        }
+    fn give(&mut self, alloc: Global, text: &mut Octets) -> Result<Given, Memory> {
+        put_next(alloc, self.next(), text)
     }
-    Ok(None)
-}
-
-// Whether the packets of a stream that is fed in pieces of this size are this text, and its fault.
-fn read(
-    alloc: Global,
-    stream: &[u8],
-    size: usize,
-    want: &[u8],
-) -> Result<(bool, Option<FrameFault>), Fail> {
-    let mut deframer = Deframer::new(alloc);
-    let mut text = Octets::new(alloc);
-    let fault = feed(&mut deframer, alloc, stream, size, &mut text);
-    drop(deframer);
-    let same = text.as_slice() == want;
-    drop(text);
-    Ok((same, fault?))
 }
 
 #[test]
@@ -144,8 +104,14 @@ fn frames_are_counted(rt: HostRuntime) -> Result<(), Fail> {
     same(stream.as_slice(), want.as_slice())?;
     for size in [1, 7, 36] {
         same(
-            read(alloc, want, size, b"\x6c\xfe\xff\xffabcdefgh")?,
-            (true, None),
+            read(
+                Deframer::new(alloc),
+                alloc,
+                want,
+                size,
+                b"\x6c\xfe\xff\xffabcdefgh",
+            )?,
+            (2, true, None),
         )?;
     }
     Ok(())
@@ -166,7 +132,7 @@ const STREAMS: &str = "\
 fn is_read(alloc: Global, row: &str, size: usize) -> Result<(), Fail> {
     let (stream, due) = row.split_once(' ').ok_or("a stream and its fault")?;
     let stream = hex::decode(alloc, stream).ok().ok_or("digits")?;
-    let (same, fault) = read(alloc, stream.as_slice(), size, b"")?;
+    let (_, same, fault) = read(Deframer::new(alloc), alloc, stream.as_slice(), size, b"")?;
     holds_at(row, same)?;
     same_at(row, shown(alloc, &fault)?.as_str(), due)
 }

@@ -5,6 +5,7 @@ ghost use Rattle.std.specs.Bool.{OnTrue};
 ghost use Rattle.frame_len.specs.Lengths.{IsWritten, frame_of};
 ghost use Rattle.frame_len.specs.Reading.{StandsFor};
 
+use crate::feeding::{Frames, Given, put_next, read};
 use frame_len::{Deframer, FrameFault, Framer, Next};
 use octets::{Memory, Octets};
 use std::alloc::Global;
@@ -56,61 +57,14 @@ fn written_and_read(
     take_packet(deframer, alloc, text.as_slice(), into)
 }
 
-// The packets that are there, so many at most, are put behind a text: how many there are, and the fault behind them.
-fn drain(
-    deframer: &mut Deframer,
-    alloc: Global,
-    text: &mut Octets,
-    most: usize,
-) -> Result<(usize, Option<FrameFault>), Memory> {
-    let mut count = 0usize;
-    for _ in 0..most {
-        match deframer.next() {
-            Next::Packet(packet) => text.push_all(alloc, packet)?,
-            Next::More => break,
-            Next::Fault(fault) => return Ok((count, Some(fault))),
-        }
-        count = count.saturating_add(1);
+impl Frames for Deframer {
+    fn take(&mut self, alloc: Global, piece: &[u8]) -> Result<(), Memory> {
+        self.feed(alloc, piece)
     }
-    Ok((count, None))
-}
 
-// The same of a stream that is fed in pieces of this size.
-fn feed(
-    deframer: &mut Deframer,
-    alloc: Global,
-    stream: &[u8],
-    size: usize,
-    text: &mut Octets,
-) -> Result<(usize, Option<FrameFault>), Memory> {
-    let mut count = 0usize;
-    for piece in stream.chunks(size.max(1)) {
-        deframer.feed(alloc, piece)?;
-        let (more, fault) = drain(deframer, alloc, text, stream.len())?;
-        count = count.saturating_add(more);
-        if fault.is_some() {
-            return Ok((count, fault));
-        }
+    fn give(&mut self, alloc: Global, text: &mut Octets) -> Result<Given, Memory> {
+        put_next(alloc, self.next(), text)
     }
-    Ok((count, None))
-}
-
-// How many packets a stream gives that is fed in pieces of this size, whether they are this text, and its fault.
-fn read(
-    alloc: Global,
-    padded: bool,
-    stream: &[u8],
-    size: usize,
-    want: &[u8],
-) -> Result<(usize, bool, Option<FrameFault>), Fail> {
-    let mut deframer = Deframer::new(alloc, padded);
-    let mut text = Octets::new(alloc);
-    let fed = feed(&mut deframer, alloc, stream, size, &mut text);
-    drop(deframer);
-    let same = text.as_slice() == want;
-    drop(text);
-    let (count, fault) = fed?;
-    Ok((count, same, fault))
 }
 
 // The form, the bytes of a stream, how many packets come, and the fault.
@@ -154,7 +108,7 @@ fn given(
     } else {
         b""
     };
-    let (count, same, fault) = read(alloc, padded, stream, size, want)?;
+    let (count, same, fault) = read(Deframer::new(alloc, padded), alloc, stream, size, want)?;
     holds_at(due, same)?;
     Ok(format!(in alloc; "{count} {fault:?}")?)
 }
@@ -192,7 +146,13 @@ fn is_cut(alloc: Global, len: u8, payload: usize, size: usize) -> Result<(), Fai
     let mut stream = Octets::copy(alloc, &[len, 0, 0, 0])?;
     stream.push_all(alloc, bytes.get(..len as usize).ok_or("too long")?)?;
     let want = bytes.get(..payload).ok_or("too long")?;
-    let found = read(alloc, true, stream.as_slice(), size, want)?;
+    let found = read(
+        Deframer::new(alloc, true),
+        alloc,
+        stream.as_slice(),
+        size,
+        want,
+    )?;
     same_at(len, found, (1, true, None))
 }
 

@@ -10,6 +10,8 @@ mod blocks;
 #[cfg(test)]
 mod derived;
 #[cfg(test)]
+mod feeding;
+#[cfg(test)]
 mod files;
 #[cfg(test)]
 mod full_frames;

@@ -7,6 +7,7 @@ ghost use Rattle.framing.specs.Streams.{Begins};
 ghost use Rattle.framing.specs.Holding.{Stands};
 ghost use Rattle.frame_short.specs.Abridged.{abridged, frame_of};
 
+use crate::feeding::{Frames, Given, put_next, read};
 use frame_short::{Deframer, FrameFault, Framer, Next};
 use octets::{Memory, Octets};
 use std::alloc::Global;
@@ -81,60 +82,14 @@ fn written_and_read(
     read_one(deframer, alloc, &text, into)
 }
 
-// The packets that are there, so many at most, are put behind a text: how many there are, and the fault behind them.
-fn drain(
-    deframer: &mut Deframer,
-    alloc: Global,
-    text: &mut Octets,
-    most: usize,
-) -> Result<(usize, Option<FrameFault>), Memory> {
-    let mut count = 0usize;
-    for _ in 0..most {
-        match deframer.next() {
-            Next::Packet(packet) => text.push_all(alloc, packet)?,
-            Next::More => break,
-            Next::Fault(fault) => return Ok((count, Some(fault))),
-        }
-        count = count.saturating_add(1);
+impl Frames for Deframer {
+    fn take(&mut self, alloc: Global, piece: &[u8]) -> Result<(), Memory> {
+        self.feed(alloc, piece)
     }
-    Ok((count, None))
-}
 
-// The same of a stream that is fed in pieces of this size.
-fn feed(
-    deframer: &mut Deframer,
-    alloc: Global,
-    stream: &[u8],
-    size: usize,
-    text: &mut Octets,
-) -> Result<(usize, Option<FrameFault>), Memory> {
-    let mut count = 0usize;
-    for piece in stream.chunks(size.max(1)) {
-        deframer.feed(alloc, piece)?;
-        let (more, fault) = drain(deframer, alloc, text, stream.len())?;
-        count = count.saturating_add(more);
-        if fault.is_some() {
-            return Ok((count, fault));
-        }
+    fn give(&mut self, alloc: Global, text: &mut Octets) -> Result<Given, Memory> {
+        put_next(alloc, self.next(), text)
     }
-    Ok((count, None))
-}
-
-// How many packets a stream gives that is fed in pieces of this size, whether they are this text, and its fault.
-fn read(
-    alloc: Global,
-    stream: &[u8],
-    size: usize,
-    want: &[u8],
-) -> Result<(usize, bool, Option<FrameFault>), Fail> {
-    let mut deframer = Deframer::new(alloc);
-    let mut text = Octets::new(alloc);
-    let fed = feed(&mut deframer, alloc, stream, size, &mut text);
-    drop(deframer);
-    let same = text.as_slice() == want;
-    drop(text);
-    let (count, fault) = fed?;
-    Ok((count, same, fault))
 }
 
 // Puts a frame of a payload that may have any length.
@@ -179,7 +134,13 @@ fn frames_are_read_in_any_pieces(rt: HostRuntime) -> Result<(), Fail> {
     let stream = two_frames(rt.alloc())?;
     let want = two_packets(rt.alloc())?;
     for size in [1, 7, 506, 507, 508, 1017] {
-        let found = read(rt.alloc(), stream.as_slice(), size, want.as_slice())?;
+        let found = read(
+            Deframer::new(rt.alloc()),
+            rt.alloc(),
+            stream.as_slice(),
+            size,
+            want.as_slice(),
+        )?;
         same(found, (2, true, None))?;
     }
     Ok(())
@@ -204,7 +165,7 @@ fn given(alloc: Global, stream: &[u8], size: usize, due: &str) -> Result<String,
     } else {
         b""
     };
-    let (count, same, fault) = read(alloc, stream, size, want)?;
+    let (count, same, fault) = read(Deframer::new(alloc), alloc, stream, size, want)?;
     holds_at(due, same)?;
     Ok(format!(in alloc; "{count} {fault:?}")?)
 }
