@@ -37,7 +37,7 @@ pub struct Reply {
 /// Why a call of a desk gives nothing.
 #[derive(Clone, Copy, Debug, PartialEq, Eq, Error)]
 pub enum DeskFault {
-    /// An earlier call came to a fault of the disk; nothing is done any more, and the desk is as it was.
+    /// An earlier call came to a fault of the disk; nothing is done any more.
     #[error("the journal is closed")]
     Closed,
     /// What this call writes would make the journal longer than it may be: nothing is done, and the desk stands for what it stood

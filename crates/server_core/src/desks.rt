@@ -81,7 +81,7 @@ pub trait Desk {
             (after_packet (setting_of (max server.now now) Self.D.step ring) (brought_in envelope) server (drawn self.old))) }
         ensures unchanged_on_memory { (server : Rules) → StandsFor self.old server → IfErr result (λ fault. fault ≡ faults.Memory → StandsFor self.new server) }
         ensures unchanged_on_full { (server : Rules) (len : ℕ) → StandsFor self.old server → IfErr result (λ fault. fault ≡ faults.Full len → StandsFor self.new server) }
-        // Only of a packet that a frame may carry.
+        // Only of a packet that a frame may carry: the record of a longer one needs more room than `Full` speaks of.
         ensures behind { (server : Rules) → StandsFor self.old server → length packet.now ≤ frame_bytes_max → IfErr result (λ fault. Behind self.new fault server) }
         ensures faults { IfErr result MayAnswer }
         ensures same_keys { keys self.new ≡ keys self.old }

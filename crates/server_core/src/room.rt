@@ -41,8 +41,8 @@ pub(crate) const SHORT_RESULT_BYTES: usize = 48;
 /// The room for all that a session says and records by a packet, and what its messages need.
 #[derive(Drop)]
 pub(crate) struct PacketRoom {
-    /// What each message needs where it is accepted; where the number of the message in the envelope is kept, that one alone,
-    /// which needs nothing accepted.
+    /// What each message needs where it is accepted; where the number of the message in the envelope is kept, one entry for that
+    /// message, without an action.
     pub(crate) dues: Vec<Due>,
     /// None yet, and room for the numbers that are acknowledged.
     pub(crate) acks: Vec<u64>,
