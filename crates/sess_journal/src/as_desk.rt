@@ -1,7 +1,7 @@
 //! A server that keeps a journal, as a desk. Its faults are all that there are. Beside what any desk promises, it says that a call
 //! which was refused before anything was done changes nothing. It is bound to its file.
 
-ghost use Rattle.std.specs.Prelude.{◌≡◌, ◌≤◌, ◌<◌, ⊤, ℕ, length, max, IfErr, IfOk, OnOk};
+ghost use Rattle.std.specs.Prelude.{◌≡◌, ◌≤◌, ◌<◌, ◌+◌, ⊤, ℕ, length, max, IfErr, IfOk, OnOk};
 ghost use Rattle.envelope.specs.declared.parts.Dir.TheVariants.{Up};
 ghost use Rattle.envelope.specs.declared.parts.Envelope.{Envelope as Sealed};
 ghost use Rattle.envelope.specs.declared.refusal.Refusal.{Refusal as Refused};
@@ -14,7 +14,7 @@ ghost use Rattle.server_session.specs.Says.{Keys, setting_of};
 ghost use Rattle.server_core.specs.declared.desk.DeskFault.TheVariants as faults;
 ghost use Rattle.server_core.specs.Desks.{Counts, Does, DoesNothing, frame_bytes_max};
 ghost use Rattle.server_core.specs.Packets.{IsHeardOf, brought_in, effects_in};
-ghost use Rattle.sess_journal.specs.Keeping.{Behind, IfNothingDone, StandsFor, count_of, disk_in, place_by};
+ghost use Rattle.sess_journal.specs.Keeping.{Behind, IfNothingDone, Refuses, StandsFor, count_of, disk_in, place_by};
 ghost use Rattle.sess_journal.specs.Replay.{bases_of};
 
 use crate::kept::Kept;
@@ -63,6 +63,8 @@ impl<K: Disk + Drop, S: Seal + Drop, D: Seeded + Drop> Desk for Kept<K, S, D> {
         ensures behind { (server : Rules) → StandsFor (bases_of S.lock S.keys D.step D.standing_at D.place_of) K.told self.old server → length packet.now ≤ frame_bytes_max → IfErr result (λ fault. Behind (bases_of S.lock S.keys D.step D.standing_at D.place_of) K.told self.new fault server) }
         ensures same_keys { S.keys self.new.server.seal ≡ S.keys self.old.server.seal }
         ensures counted { Counts result (count_of K.faults (disk_in self.old.book)) (count_of K.faults (disk_in self.new.book)) }
+        // It has no room exactly where what this call adds at most doesn't fit.
+        ensures refuses { Refuses (22 + length packet.now) self.old.book result }
         // Where it was closed, or has no room, nothing is done.
         ensures unchanged { IfErr result (IfNothingDone (self.new ≡ self.old)) }
         ensures same_binding { place_by K.place (disk_in self.new.book) ≡ place_by K.place (disk_in self.old.book) }
@@ -100,6 +102,8 @@ impl<K: Disk + Drop, S: Seal + Drop, D: Seeded + Drop> Desk for Kept<K, S, D> {
         ensures same_service_on_full { (len : ℕ) → IfErr result (λ fault. fault ≡ faults.Full len → service.new ≡ service.old) }
         ensures same_keys { S.keys self.new.server.seal ≡ S.keys self.old.server.seal }
         ensures counted { Counts result (count_of K.faults (disk_in self.old.book)) (count_of K.faults (disk_in self.new.book)) }
+        // It has no room exactly where what this call adds at most doesn't fit.
+        ensures refuses { Refuses 262196 self.old.book result }
         // Where it was closed, or has no room, nothing is done.
         ensures unchanged { IfErr result (IfNothingDone (self.new ≡ self.old)) }
         ensures same_service { IfErr result (IfNothingDone (service.new ≡ service.old)) }
@@ -118,6 +122,8 @@ impl<K: Disk + Drop, S: Seal + Drop, D: Seeded + Drop> Desk for Kept<K, S, D> {
         ensures behind { (server : Rules) → StandsFor (bases_of S.lock S.keys D.step D.standing_at D.place_of) K.told self.old server → IfErr result (λ fault. Behind (bases_of S.lock S.keys D.step D.standing_at D.place_of) K.told self.new fault server) }
         ensures same_keys { S.keys self.new.server.seal ≡ S.keys self.old.server.seal }
         ensures counted { Counts result (count_of K.faults (disk_in self.old.book)) (count_of K.faults (disk_in self.new.book)) }
+        // It has no room exactly where what this call adds at most doesn't fit.
+        ensures refuses { Refuses 22 self.old.book result }
         // Where it was closed, or has no room, nothing is done.
         ensures unchanged { IfErr result (IfNothingDone (self.new ≡ self.old)) }
         ensures same_binding { place_by K.place (disk_in self.new.book) ≡ place_by K.place (disk_in self.old.book) }
@@ -141,6 +147,8 @@ impl<K: Disk + Drop, S: Seal + Drop, D: Seeded + Drop> Desk for Kept<K, S, D> {
         ensures behind { (server : Rules) → StandsFor (bases_of S.lock S.keys D.step D.standing_at D.place_of) K.told self.old server → IfErr result (λ fault. Behind (bases_of S.lock S.keys D.step D.standing_at D.place_of) K.told self.new fault server) }
         ensures same_keys { S.keys self.new.server.seal ≡ S.keys self.old.server.seal }
         ensures counted { Counts result (count_of K.faults (disk_in self.old.book)) (count_of K.faults (disk_in self.new.book)) }
+        // It has no room exactly where what this call adds at most doesn't fit.
+        ensures refuses { Refuses 38 self.old.book result }
         // Where it was closed, or has no room, nothing is done.
         ensures unchanged { IfErr result (IfNothingDone (self.new ≡ self.old)) }
         ensures same_binding { place_by K.place (disk_in self.new.book) ≡ place_by K.place (disk_in self.old.book) }
