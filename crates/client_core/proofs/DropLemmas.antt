@@ -1,20 +1,15 @@
 -- The answers that are to be dropped, as they are gone through.
 use Rattle.std.proofs.Common.{◌≡◌, ◌∙◌, ℕ, ◌+◌, ◌<◌, ◌≤◌, true, false, List, [], ◌∷◌, Option, Some, None, length, drop, ap, refl, sym, subst, inl, inr, arith}
-use Rattle.std.specs.Prelude.{◌≢◌, option_map, slice_get, fold}
+use Rattle.std.specs.Prelude.{◌≢◌, slice_get, fold}
 use Rattle.std.proofs.lemmas.Bool.{cases_Bool, true≢false}
 use Rattle.service_tl.specs.declared.item.Item.TheVariants.{RpcDropAnswer}
 use Rattle.service_tl.specs.Items.{spelling_of}
 use Rattle.call_table.specs.declared.call.CallNo.{CallNo}
-use Rattle.call_table.specs.declared.row.Progress.{Progress}
-use Rattle.call_table.specs.declared.row.Progress.TheVariants as progress
-use Rattle.call_table.specs.declared.row.Row.{Row}
-use Rattle.call_table.specs.Table.{Sent, at}
-use Rattle.call_table.specs.Kept.{living_in, state_of}
+use Rattle.call_table.specs.Table.{at}
 use Rattle.client_rules.specs.Client.{after_message, calls_of, numbered, with_call}
 use Rattle.client_rules.specs.Filling.{Filling, changes, number_of, says_drop, says_drop_of, undropped}
 use Rattle.client_core.specs.Kept.{Contents}
 use Rattle.client_core.specs.Draft.{Draft, Goes, DropsSoFar, drops}
-use Rattle.client_core.proofs.CallLemmas.{value}
 use Rattle.client_core.proofs.GoesLemmas.{goes_full}
 use Rattle.client_core.proofs.QueueLemmas.{drop_get}
 
@@ -28,19 +23,6 @@ full_drops : {S : Type 0} (filling : Filling S) (calls : List CallNo) → fillin
 full_drops filling [] full = refl
 full_drops filling (call ∷ calls) full =
     ap (λ own. fold says_drop own calls) (full_drop call (number_of (at call (calls_of filling.client))) filling full) ∙ full_drops filling calls full
-
--- a call that is sent has a message
-living_there : (own : Progress) → state_of own ≡ Sent → living_in own ≢ None
-living_there progress.Queued is = grind (arith, is)
-living_there (progress.Sent living under) is = λ none. grind (arith, none)
-living_there progress.Held is = grind (arith, is)
-living_there (progress.Done bytes) is = grind (arith, is)
-living_there (progress.Refused code) is = grind (arith, is)
-living_there (progress.Unknown cause) is = grind (arith, is)
-
-pub sent_living : (own : Option Row) → option_map (λ row. state_of row.progress) own ≡ Some Sent → option_map (λ row. living_in row.progress) own ≢ Some None
-sent_living None is = grind (arith, is)
-sent_living (Some row) is = λ none. living_there row.progress (ap (value Sent) is) (ap (value None) none)
 
 pub drops_none : {S : Type 0} (first : Filling S) (core : Contents) (draft : Draft) (count : ℕ) → Goes core draft first → count ≡ length (drops first) → DropsSoFar first core draft 0 count
 drops_none first core draft count is all = record { now = first; goes = is; same = refl; left = λ room. omega (arith, all) }

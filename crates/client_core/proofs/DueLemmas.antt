@@ -103,10 +103,6 @@ keeps_if : {S : Type 0} (b : Bool) (gone stays : Filling S) → has_any gone.mes
 keeps_if true gone stays one other = one
 keeps_if false gone stays one other = other
 
-both_not : (left right : Bool) → right ≡ false → (left && right) ≡ false
-both_not true right is = is
-both_not false right is = refl
-
 module _ (sizes : (form : Form) (value : Of form) → Fits form value → length (spelling form value) ≡ size_of_form form value) where
   acks_stage : {S : Type 0} (client : Client) (draw : S) (due : Bool) (filling : Filling S) (own : List ℕ) → length own ≤ 8192
       → Stage client draw due filling → Stage client draw (due || has_some own) (says_acks own filling)
@@ -249,16 +245,9 @@ before setting client draw =
     (says_acks client.table.acks (empty client draw))))))) in
     fold says_drop (says_binding setting client.temporary items) (group_of group.Dropping (calls_of client))
 
-or_right : (one other : Bool) → (one || other) ≡ false → other ≡ false
-or_right true other is = absurd (true≢false is)
-or_right false other is = is
-
 -- a moment says nothing of it
 pub can_at : (now : ℕ) (client : Client) → CanSay client → CanSay (at_moment now client)
 can_at now client can = record { acks = can.acks; told = can.told; resent = can.resent; drops = can.drops; bodies = can.bodies }
-
-pub nothing_goes : (client : Client) → is_due_beside client ≡ false → list_any (goes_at client) (group_of group.Queued (calls_of client)) ≡ false
-nothing_goes client quiet = or_right (is_due_before client) (list_any (goes_at client) (group_of group.Queued (calls_of client))) quiet
 
 module _ (sizes : (form : Form) (value : Of form) → Fits form value → length (spelling form value) ≡ size_of_form form value) where
   pub before_stage : {S : Type 0} (setting : Setting S) (client : Client) (draw : S) → CanSay client

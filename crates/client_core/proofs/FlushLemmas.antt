@@ -159,7 +159,7 @@ alone_sent setting lock keys now client after before message inner bytes core dr
 -- ---- what waits and the queued calls
 
 -- nothing is in the packet yet
-pub begins : {S : Type 0} (core : Contents) (draft : Draft) (client : Client) (draw : S) → draft ≡ record nothing_yet { room = draft.room } → Stands core client → Goes core draft (empty client draw)
+pub begins : {S : Type 0} (core : Contents) (draft : Draft) (client : Client) (draw : S) → draft ≡ record nothing_yet { room = draft.room; numbers = draft.numbers } → Stands core client → Goes core draft (empty client draw)
 begins core draft client draw is stands =
     subst (λ own. Goes core own (empty client draw)) (sym is)
     (record {

@@ -7,7 +7,7 @@ use Rattle.std.proofs.lemmas.List.Sums.{sum_by-append}
 use Rattle.service_tl.specs.declared.lists.Message.{Message}
 use Rattle.service_tl.specs.declared.item.Item.TheVariants.{DestroySession, MsgsAck, MsgResendReq, RpcDropAnswer}
 use Rattle.service_tl.specs.Items.{spelling_of}
-use Rattle.msg_ids.specs.Counters.{Counters, after_next, next_number}
+use Rattle.msg_ids.specs.Counters.{Counters, after_next}
 use Rattle.containers.specs.Container.{bytes_max, container_head, message_head, messages_max, size_of}
 use Rattle.packing.specs.Packing.{is_within}
 use Rattle.call_table.specs.declared.call.CallNo.{CallNo}
@@ -20,7 +20,7 @@ use Rattle.client_rules.specs.Filling.{Filling, changes, Turn, Goes as Going, bo
 use Rattle.client_core.specs.Kept.{Contents, Stands}
 use Rattle.client_core.specs.Draft.{Draft, Goes, Holds, LeavesQueue, drops, queue, enters, filled_up, item_of, needs_answer, said_bytes, said_message}
 use Rattle.client_core.specs.declared.saying.Outgoing.{Outgoing}
-use Rattle.client_core.specs.Calling.{call_message, living_of}
+use Rattle.client_core.specs.Calling.{living_of}
 use Rattle.client_core.proofs.CallLemmas.{same_at, value}
 use Rattle.client_core.proofs.QueueLemmas.{left_group}
 
@@ -141,11 +141,6 @@ some_of count none is isnt zero_of = true≢false (sym (is ∙ ap (λ n. n == 0)
 pub none_of : (count : ℕ) (none : Bool) → none ≡ (count == 0) → none ≡ true → count ≡ 0
 none_of count none is yes_now = eqb-true count 0 (sym is ∙ yes_now)
 
--- acknowledgements go where there are some
-pub acks_not : {S : Type 0} (acks : List ℕ) (filling : Filling S) → length acks ≡ 0 → says_acks acks filling ≡ filling
-acks_not [] filling none = refl
-acks_not (number ∷ acks) filling none = absurd (omega (arith, none))
-
 pub acks_go : {S : Type 0} (acks : List ℕ) (filling : Filling S) → length acks ≢ 0
     → says_acks acks filling ≡ says false (MsgsAck acks) (λ client. record client { table = record client.table { acks = [] } }) filling
 acks_go [] filling some = absurd (some refl)
@@ -194,42 +189,6 @@ said_in core inside new draft after filling change said at same is now size fits
     })
 
 -- ---- a queued call
-
--- it fits, and is sent
-pub sent_in : {S : Type 0} (core inside new : Contents) (draft after : Draft) (filling : Filling S) (call : CallNo) (wrap : Option ℕ) (body : List ℕ) (at : ℕ) (size : ℕ)
-    → inside ≡ core → Goes core draft filling → at ≡ time_of filling.client
-    → length (body_behind wrap body) ≡ size → enters size draft ≡ true
-    → ((messages : List Message) → Holds draft messages → Holds after (messages ++ call_message at inside.rest.counters wrap body ∷ []))
-    → after.inner ≡ draft.inner ++ next_number inside.rest.counters.last at ∷ [] → after.is_full ≡ draft.is_full
-    → ((client : Client) → record inside.rest { counters = after_next inside.rest.counters at true } ≡ record client { table = no_calls } → new.rest ≡ record client { table = no_calls })
-    → ((table : Table) → StandsFor inside.calls table → StandsFor new.calls (with_call_in call (sent inside.rest.session (living_of (call_message at inside.rest.counters wrap body) wrap) inside.rest.salt) table))
-    → Goes new after (takes_turn call body (Going wrap) filling)
-sent_in core inside new draft after filling call wrap body at size same is now sized fits holds inner full rest calls =
-    let client = filling.client in
-    let counters : inside.rest.counters ≡ client.counters = told core inside client (λ (own : Client). own.counters) same is.client in
-    let session : inside.rest.session ≡ client.session = told core inside client (λ (own : Client). own.session) same is.client in
-    let salt : inside.rest.salt ≡ client.salt = told core inside client (λ (own : Client). own.salt) same is.client in
-    let message = numbered true (body_behind wrap body) client in
-    let numbers : call_message at inside.rest.counters wrap body ≡ message =
-    ap (λ (moment : ℕ). call_message moment inside.rest.counters wrap body) now ∙ ap (λ (own : Counters). call_message (time_of client) own wrap body) counters in
-    let counted : after_next inside.rest.counters at true ≡ after_next client.counters (time_of client) true =
-    ap (λ (moment : ℕ). after_next inside.rest.counters moment true) now ∙ ap (λ (own : Counters). after_next own (time_of client) true) counters in
-    let kept : inside.rest ≡ record client { table = no_calls } = ap (λ (own : Contents). own.rest) same ∙ is.client.rest in
-    let table : StandsFor inside.calls client.table = subst (λ (own : Calls). StandsFor own client.table) (sym (ap (λ (own : Contents). own.calls) same)) is.client.calls in
-    subst (Goes new after) (sym (goes_in core draft filling message (sends_call call wrap message) size is sized fits)) (record {
-      client = record {
-        rest = rest (after_message true client)
-            (ap (λ (own : Client). record own { counters = after_next inside.rest.counters at true }) kept
-            ∙ ap (λ (own : Counters). record client { counters = own; table = no_calls }) counted);
-        calls = subst (λ (own : Message). StandsFor new.calls (with_call_in call (sent client.session (living_of own wrap) client.salt) client.table)) numbers
-            (subst (λ (own : ℕ). StandsFor new.calls (with_call_in call (sent client.session (living_of (call_message at inside.rest.counters wrap body) wrap) own) client.table)) salt
-            (subst (λ (own : ℕ). StandsFor new.calls (with_call_in call (sent own (living_of (call_message at inside.rest.counters wrap body) wrap) inside.rest.salt) client.table)) session
-            (calls client.table table)));
-      };
-      messages = subst (λ (one : Message). Holds after (filling.messages ++ one ∷ [])) numbers (holds filling.messages is.messages);
-      inner = inner ∙ (ap (λ xs. xs ++ next_number inside.rest.counters.last at ∷ []) is.inner ∙ ap (λ (one : Message). filling.inner ++ one.number ∷ []) numbers);
-      is_full = full ∙ is.is_full;
-    })
 
 -- by the body that it has
 pub if_body : (own : Option Call) (body : List ℕ) (P : List ℕ → Type 0) → option_map (λ one. one.body) own ≡ Some body → P body → IfSome own (λ one. P one.body)

@@ -3,9 +3,9 @@ use Rattle.std.proofs.Common.{◌≡◌, ◌∙◌, ℕ, Bool, true, false, List
 use Rattle.std.specs.Prelude.{◌==◌, ◌||◌, if◌then◌else◌, option_map}
 use Rattle.call_table.specs.Table.{inner_of, owner}
 use Rattle.call_table.specs.Kept.{Stands as StandsFor}
-use Rattle.client_rules.specs.Client.{Client, calls_of, with_binding}
+use Rattle.client_rules.specs.Client.{Client, calls_of}
 use Rattle.client_rules.specs.Learning.{with_clock}
-use Rattle.client_rules.specs.Taking.{Notice, alone_among, binding_noticed, has_asked, noticed, noticed_by, packet_noticed, with_notice_clock, with_notice_salt}
+use Rattle.client_rules.specs.Taking.{Notice, alone_among, has_asked, noticed, noticed_by, packet_noticed, with_notice_clock, with_notice_salt}
 use Rattle.client_core.specs.Marks.{table_alone}
 use Rattle.client_core.specs.Kept.{Contents, Stands}
 use Rattle.client_core.proofs.MarkingLemmas.{numbers_lifted}
@@ -55,20 +55,12 @@ noticed_as outer about code salt client asked packet own is told =
     ∙ (ap (λ now. noticed_by None now (inner_of about client.table.packets) outer (notice_of about code salt) client) is
     ∙ ap (λ now. noticed_by None asked now outer (notice_of about code salt) client) told)
 
-pub noticed_binding : (outer about code : ℕ) (salt : Option ℕ) (client : Client) → owner about (calls_of client) ≡ None → has_asked about client.temporary ≡ true
-    → with_binding (binding_noticed code) (with_notice_salt salt (with_notice_clock outer code client)) ≡ noticed outer (notice_of about code salt) client
-noticed_binding outer about code salt client own is = sym (noticed_as outer about code salt client true (inner_of about client.table.packets) own is refl)
-
 -- about a packet that is remembered
 pub noticed_packet : (outer about code : ℕ) (salt : Option ℕ) (client : Client) (numbers : List ℕ) → owner about (calls_of client) ≡ None → has_asked about client.temporary ≡ false
     → inner_of about client.table.packets ≡ Some numbers
     → with_notice_salt salt (with_notice_clock outer code (packet_noticed numbers client)) ≡ noticed outer (notice_of about code salt) client
 noticed_packet outer about code salt client numbers own is told =
     over_packet outer code salt numbers client ∙ sym (noticed_as outer about code salt client false (Some numbers) own is told)
-
-pub noticed_nothing : (outer about code : ℕ) (salt : Option ℕ) (client : Client) → owner about (calls_of client) ≡ None → has_asked about client.temporary ≡ false
-    → inner_of about client.table.packets ≡ None → client ≡ noticed outer (notice_of about code salt) client
-noticed_nothing outer about code salt client own is told = sym (noticed_as outer about code salt client false None own is told)
 
 -- ---- what looking for the packet tells
 
@@ -79,10 +71,3 @@ pub was_packet : (new : Contents) (client : Client) (packet : Option (List ℕ))
     → (numbers : List ℕ) × ((packet ≡ Some numbers) × Stands new (packet_noticed numbers client))
 was_packet new client None found is some none = absurd (grind (arith, is, (none refl).0))
 was_packet new client (Some numbers) found is some none = (numbers, (refl, (some numbers refl).1))
-
-pub was_none : (new : Contents) (client : Client) (packet : Option (List ℕ)) (found : Bool) → found ≡ false
-    → ((numbers : List ℕ) → packet ≡ Some numbers → (found ≡ true) × Stands new (packet_noticed numbers client))
-    → (packet ≡ None → (found ≡ false) × Stands new client)
-    → (packet ≡ None) × Stands new client
-was_none new client None found is some none = (refl, (none refl).1)
-was_none new client (Some numbers) found is some none = absurd (grind (arith, is, (some numbers refl).0))

@@ -1,65 +1,39 @@
 -- How many bytes what waits comes to.
-use Rattle.std.proofs.Common.{◌≡◌, ◌∙◌, ℕ, zero, suc, ◌+◌, ◌-◌, ◌≤◌, Bool, true, false, List, [], ◌∷◌, Option, Some, None, length, take, min, ap, refl, sym, subst, inl, inr, arith}
-use Rattle.std.specs.Prelude.{if◌then◌else◌, is_some, nat_lt, option_map, slice_get}
+use Rattle.std.proofs.Common.{◌≡◌, ◌∙◌, ℕ, zero, suc, ◌+◌, ◌-◌, ◌≤◌, Bool, true, false, List, [], ◌∷◌, Option, Some, None, length, take, min, ap, refl, sym, inl, inr, arith}
+use Rattle.std.specs.Prelude.{◌&&◌, if◌then◌else◌, is_some, nat_lt, option_map}
 use Rattle.std.proofs.lemmas.Bool.{cases_Bool, true≢false}
 use Rattle.call_table.specs.declared.call.CallNo.{CallNo}
 use Rattle.call_table.specs.declared.call.Group.TheVariants as group
 use Rattle.call_table.specs.declared.row.Row.{Row}
 use Rattle.call_table.specs.declared.row.Progress.{Progress}
 use Rattle.call_table.specs.declared.row.Progress.TheVariants as progress
-use Rattle.call_table.specs.Table.{at, call_no, is_sent, places_from, with_own, with_number}
+use Rattle.call_table.specs.Table.{is_sent, places_from, with_own, with_number}
 use Rattle.call_table.specs.Kept.{is_row_in, number_in, numbers_in, state_of}
 use Rattle.envelope.specs.Packet.{sealed_size}
-use Rattle.client_rules.specs.Client.{Asked, Binding, Bound, Held, Needed, Refused, Waiting}
+use Rattle.client_rules.specs.Client.{Asked, Binding, Bound, Client, Held, Needed, Refused, Waiting, is_open}
 use Rattle.client_rules.specs.Filling.{Turn, Goes as Going, numbers_max, turn_under}
 use Rattle.client_core.specs.Calling.{wrap_bytes}
 use Rattle.containers.specs.Container.{message_head}
-use Rattle.client_core.specs.Owed.{asked_count, bytes_at, call_bytes, follows_at, list_bytes, may_hold, resent_on, row_bytes, row_follows, small_bytes, states_on, told_bytes, told_on, wrap_most}
+use Rattle.client_core.specs.Owed.{asked_count, call_bytes, has_unbound, holds_back, is_unbound, list_bytes, resent_on, row_bytes, row_follows, small_bytes, states_on, told_bytes, told_on}
 use Rattle.client_core.specs.Draft.{Draft, HasRoomFor, TakesUp}
 use Rattle.client_core.proofs.RoomLemmas.{room_left}
 use Rattle.client_core.proofs.CallLemmas.{value}
 use Rattle.client_core.proofs.MarkLemmas.{places_here}
 
--- ---- the bytes at a place
+-- ---- the bytes of a call
 
-sized_by : (row : Row) (body : List ℕ) (after : Option CallNo) → Some row.body ≡ Some body → Some row.after ≡ Some after → call_bytes row ≡ message_head + (wrap_most after + length body)
+sized_by : (row : Row) (body : List ℕ) (after : Option CallNo) → Some row.body ≡ Some body → Some row.after ≡ Some after → call_bytes row ≡ message_head + (wrap_bytes after + length body)
 sized_by row body after is told =
-    ap (λ own. message_head + (wrap_most row.after + length (value body own))) is ∙ ap (λ own. message_head + (wrap_most (value after own) + length body)) told
+    ap (λ own. message_head + (wrap_bytes row.after + length (value body own))) is ∙ ap (λ own. message_head + (wrap_bytes (value after own) + length body)) told
 
-follows_by : (own : Option Row) (after : Option CallNo) → option_map (λ row. row.after) own ≡ Some after → is_some after ≡ row_follows own
-follows_by None after told = grind (arith, told)
-follows_by (Some row) after told = ap (λ own. is_some (value after own)) (sym told)
-
-sized : (own : Option Row) (body : List ℕ) (after : Option CallNo) → option_map (λ row. row.body) own ≡ Some body → option_map (λ row. row.after) own ≡ Some after
-    → row_bytes own ≡ message_head + (wrap_most after + length body)
+pub sized : (own : Option Row) (body : List ℕ) (after : Option CallNo) → option_map (λ row. row.body) own ≡ Some body → option_map (λ row. row.after) own ≡ Some after
+    → row_bytes own ≡ message_head + (wrap_bytes after + length body)
 sized None body after is told = grind (arith, is)
 sized (Some row) body after is told = sized_by row body after is told
 
-pub at_told : (rows : List Row) (own : Option ℕ) (call : CallNo) (body : List ℕ) (after : Option CallNo) → Some call ≡ option_map call_no own
-    → option_map (λ row. row.body) (at call rows) ≡ Some body → option_map (λ row. row.after) (at call rows) ≡ Some after
-    → bytes_at rows own ≡ message_head + (wrap_most after + length body)
-at_told rows None call body after told is so = grind (arith, told)
-at_told rows (Some place) call body after told is so =
-    let same : call.n ≡ place + 1 = ap (λ (one : Option CallNo). (value call one).n) told in
-    let there : call.n - 1 ≡ place = omega (arith, same) in
-    sized (slice_get rows place) body after (subst (λ (n : ℕ). option_map (λ row. row.body) (slice_get rows n) ≡ Some body) there is)
-    (subst (λ (n : ℕ). option_map (λ row. row.after) (slice_get rows n) ≡ Some after) there so)
-
-pub none_told : (rows : List Row) (own : Option ℕ) → None ≡ option_map call_no own → bytes_at rows own ≡ 0
-none_told rows None told = refl
-none_told rows (Some place) told = grind (arith, told)
-
-pub follows_told_at : (rows : List Row) (own : Option ℕ) (call : CallNo) (after : Option CallNo) → Some call ≡ option_map call_no own
-    → option_map (λ row. row.after) (at call rows) ≡ Some after → is_some after ≡ follows_at rows own
-follows_told_at rows None call after told so = grind (arith, told)
-follows_told_at rows (Some place) call after told so =
-    let same : call.n ≡ place + 1 = ap (λ (one : Option CallNo). (value call one).n) told in
-    let there : call.n - 1 ≡ place = omega (arith, same) in
-    follows_by (slice_get rows place) after (subst (λ (n : ℕ). option_map (λ row. row.after) (slice_get rows n) ≡ Some after) there so)
-
-pub follows_none : (rows : List Row) (own : Option ℕ) → None ≡ option_map call_no own → false ≡ follows_at rows own
-follows_none rows None told = refl
-follows_none rows (Some place) told = grind (arith, told)
+pub follows_by : (own : Option Row) (after : Option CallNo) → option_map (λ row. row.after) own ≡ Some after → is_some after ≡ row_follows own
+follows_by None after told = grind (arith, told)
+follows_by (Some row) after told = ap (λ own. is_some (value after own)) (sym told)
 
 -- ---- with which number a call goes
 
@@ -74,8 +48,8 @@ first_so (Some earlier) is = absurd (true≢false is)
 pub first_after : (own : Option Row) (after : Option CallNo) → option_map (λ row. row.after) own ≡ Some after → row_follows own ≡ false → after ≡ None
 first_after own after told is = first_so after (follows_by own after told ∙ is)
 
-wrap_less_by : (wrap : Option ℕ) (after : Option CallNo) → (is_some after ≡ false → wrap ≡ None) → wrap_bytes wrap ≤ wrap_most after
-wrap_less_by wrap None so = omega (arith, ap wrap_bytes (so refl))
+wrap_less_by : (wrap : Option ℕ) (after : Option CallNo) → (is_some after ≡ false → wrap ≡ None) → wrap_bytes wrap ≤ wrap_bytes after
+wrap_less_by wrap None so = omega (arith, ap (wrap_bytes {X = ℕ}) (so refl))
 wrap_less_by wrap (Some earlier) so = wrap_few wrap
 
 -- a call goes in as many bytes as are counted at most
@@ -86,12 +60,42 @@ goes_within (Some row) wrap body is so =
     let same = ap (λ (own : Option (List ℕ)). length (value body own)) is in
     omega (arith, same, wrap_less_by wrap row.after so)
 
-pub under_first : (binding : Binding) (turn : Turn) → may_hold binding ≡ false → turn_under binding turn ≡ turn
+pub under_first : (binding : Binding) (turn : Turn) → is_unbound binding ≡ false → turn_under binding turn ≡ turn
 under_first Needed turn is = absurd (true≢false is)
 under_first (Asked message) turn is = absurd (true≢false is)
 under_first Held turn is = absurd (true≢false is)
 under_first Bound turn is = refl
 under_first (Refused code) turn is = absurd (true≢false is)
+
+-- where a call goes its binding holds
+pub under_free : (binding : Binding) (turn : Turn) (wrap : Option ℕ) → turn_under binding turn ≡ Going wrap → is_unbound binding ≡ false
+under_free Needed turn wrap is = absurd (grind (arith, is))
+under_free (Asked message) turn wrap is = absurd (grind (arith, is))
+under_free Held turn wrap is = absurd (grind (arith, is))
+under_free Bound turn wrap is = refl
+under_free (Refused code) turn wrap is = absurd (grind (arith, is))
+
+unbound_free : (one two : Bool) → one ≡ true → (one && two) ≡ false → two ≡ false
+unbound_free true two is free = free
+unbound_free false two is free = absurd (true≢false (sym is))
+
+none_of_both : (one two : Bool) → one ≡ false → (one && two) ≡ false
+none_of_both true two is = absurd (true≢false is)
+none_of_both false two is = refl
+
+none_of_second : (one two : Bool) → two ≡ false → (one && two) ≡ false
+none_of_second true two is = is
+none_of_second false two is = refl
+
+pub free_closed : (client : Client) → is_open client ≡ false → holds_back client ≡ false
+free_closed client is = none_of_both (is_open client) (has_unbound client.temporary) is
+
+pub free_none : (client : Client) → has_unbound client.temporary ≡ false → holds_back client ≡ false
+free_none client is = none_of_second (is_open client) (has_unbound client.temporary) is
+
+-- an open client that holds nothing back has a binding that holds, where it has one
+pub bound_where_free : (client : Client) → is_open client ≡ true → holds_back client ≡ false → has_unbound client.temporary ≡ false
+bound_where_free client opened free = unbound_free (is_open client) (has_unbound client.temporary) opened free
 
 abbrev wrap_in : Turn → Option ℕ
 wrap_in (Going wrap) = wrap
@@ -167,25 +171,25 @@ take_least (suc n) (x ∷ xs) = let later = take_least n xs in omega arith
 -- ---- what waits goes, kind by kind
 
 pub told_room : (w x : Waiting) (rows ys : List Row) (count : ℕ) (old new : Draft) → x ≡ w → ys ≡ rows
-    → HasRoomFor (list_bytes count + told_on w rows) old → TakesUp (list_bytes count) old new → HasRoomFor (told_on x ys) new
+    → HasRoomFor (list_bytes count + told_on w rows) old → TakesUp (list_bytes count) 0 old new → HasRoomFor (told_on x ys) new
 told_room w x rows ys count old new same kept has takes =
     room_left (list_bytes count) (told_on x ys) (list_bytes count + told_on w rows) old new
     (omega (arith, ap (λ (own : Waiting). told_on own ys) same, ap (told_on w) kept)) has takes
 
 pub resent_room : (w x : Waiting) (rows ys : List Row) (old new : Draft) → record x { told = None } ≡ record w { told = None } → ys ≡ rows
-    → HasRoomFor (told_on w rows) old → TakesUp (told_bytes w.told) old new → HasRoomFor (resent_on x ys) new
+    → HasRoomFor (told_on w rows) old → TakesUp (told_bytes w.told) 0 old new → HasRoomFor (resent_on x ys) new
 resent_room w x rows ys old new same kept has takes =
     room_left (told_bytes w.told) (resent_on x ys) (told_on w rows) old new
     (omega (arith, ap (λ (own : Waiting). resent_on own ys) same, ap (resent_on w) kept)) has takes
 
 pub states_room : (w x : Waiting) (rows ys : List Row) (old new : Draft) → record x { resent = [] } ≡ record w { resent = [] } → ys ≡ rows
-    → HasRoomFor (resent_on w rows) old → TakesUp (list_bytes (length w.resent)) old new → HasRoomFor (states_on x ys) new
+    → HasRoomFor (resent_on w rows) old → TakesUp (list_bytes (length w.resent)) 0 old new → HasRoomFor (states_on x ys) new
 states_room w x rows ys old new same kept has takes =
     room_left (list_bytes (length w.resent)) (states_on x ys) (resent_on w rows) old new
     (omega (arith, ap (λ (own : Waiting). states_on own ys) same, ap (states_on w) kept)) has takes
 
 pub small_room : (w : Waiting) (rows : List Row) (old new : Draft) → HasRoomFor (states_on w rows) old
-    → TakesUp (list_bytes (asked_count w.states rows)) old new → HasRoomFor small_bytes new
+    → TakesUp (list_bytes (asked_count w.states rows)) 0 old new → HasRoomFor small_bytes new
 small_room w rows old new has takes = room_left (list_bytes (asked_count w.states rows)) small_bytes (states_on w rows) old new (omega arith) has takes
 
 -- ---- a longer body has no shorter packet

@@ -1,5 +1,5 @@
 -- What an event leaves as it was: a client's keys, its session and how many calls it has.
-use Rattle.std.proofs.Common.{◌≡◌, ◌∙◌, ℕ, suc, ◌-◌, Bool, true, false, List, [], ◌∷◌, length, map, fold, Option, Some, None, ap, refl, sym, arith}
+use Rattle.std.proofs.Common.{◌≡◌, ◌∙◌, ℕ, suc, ◌-◌, Bool, true, false, List, [], ◌∷◌, length, map, fold, Option, Some, None, ap, refl, sym}
 use Rattle.std.specs.Prelude.{◌==◌, ◌||◌, if◌then◌else◌, nat_le, nat_lt, not, option_map, IfSome, IsSome, OnErr, OnOk, Result, Ok, Err}
 use Rattle.std.specs.List.{AllZip, list_any, zip}
 use Rattle.std.proofs.lemmas.List.{length-map}
@@ -219,17 +219,6 @@ came_by (Err memory) now before after took own = own_stands now before took
 
 pub came_own : (result : Result Bool Memory) (old now : Contents) (before : Client) → Stands old before → Came result now before → own_in now ≡ own_in old
 came_own result old now before stands came = came_by result now before came.after came.took came.own ∙ sym (own_stands old before stands)
-
--- it is a client's still, unless that ended
-pub came_still : (now : Contents) (before : Client) → Came (Ok false) now before → StandsForOne now
-came_still now before came = record { client = came.after; stands = came.took.1 }
-
-pub came_memory : (memory : Memory) (now : Contents) (before : Client) → Came (Err memory) now before → StandsForOne now
-came_memory memory now before came = record { client = before; stands = came.took }
-
-pub came_unless : (ended : Bool) (now : Contents) (before : Client) → Came (Ok ended) now before → ended ≡ false → StandsForOne now
-came_unless false now before came is = came_still now before came
-came_unless true now before came is = absurd (grind (arith, is))
 
 -- ---- a ring has the keys
 

@@ -1,5 +1,5 @@
 -- The queue of calls, as it is gone through.
-use Rattle.std.proofs.Common.{◌≡◌, ◌∙◌, ℕ, zero, suc, ◌+◌, ◌-◌, ◌<◌, ◌≤◌, Bool, true, false, List, [], ◌∷◌, Some, None, length, map, drop, ap, refl, sym, subst, inl, inr, arith}
+use Rattle.std.proofs.Common.{◌≡◌, ◌∙◌, ℕ, zero, suc, ◌+◌, ◌-◌, ◌≤◌, Bool, true, false, List, [], ◌∷◌, Some, None, length, map, drop, ap, refl, sym, subst, inl, inr, arith}
 use Rattle.std.specs.Prelude.{◌≢◌, if◌then◌else◌, option_map, slice_get, fold}
 use Rattle.std.proofs.lemmas.Bool.{cases_Bool, true≢false}
 use Rattle.std.specs.List.{drop-map}
@@ -13,7 +13,7 @@ use Rattle.client_core.specs.Draft.{Draft, Goes, LeavesQueue, SoFar, queue}
 use Rattle.client_core.proofs.CallLemmas.{value}
 use Rattle.client_core.proofs.MarkLemmas.{named_at, places_here}
 
-abbrev Leaves : {X : Type 0} → (X → Bool) → (X → X) → ℕ → ℕ → ℕ → List X → Type 0
+abbrev pub Leaves : {X : Type 0} → (X → Bool) → (X → X) → ℕ → ℕ → ℕ → List X → Type 0
 Leaves test f place j k xs = (i : ℕ) × ((k ≡ place + i) × (drop j (places_from test place (changed_at i f xs)) ≡ drop (suc j) (places_from test place xs)))
 
 leaves_here : {X : Type 0} (test : X → Bool) (f : X → X) (fails : (x : X) → test (f x) ≡ false) (place j k : ℕ) (x : X) (xs : List X) → test x ≡ true
@@ -36,7 +36,7 @@ leaves_here test f fails place (suc j) k x xs holds later told =
     )
 
 -- the one at a place doesn't pass any more: those behind it move up
-leaves : {X : Type 0} (test : X → Bool) (f : X → X) (fails : (x : X) → test (f x) ≡ false) (place j k : ℕ) (xs : List X)
+pub leaves : {X : Type 0} (test : X → Bool) (f : X → X) (fails : (x : X) → test (f x) ≡ false) (place j k : ℕ) (xs : List X)
     → slice_get (places_from test place xs) j ≡ Some k → Leaves test f place j k xs
 leaves test f fails place j k [] told = grind (arith, told)
 leaves test f fails place j k (x ∷ xs) told = elim (cases_Bool (test x)) [
@@ -144,10 +144,3 @@ so_far_all first core draft place k count so all = elim (cases_Bool draft.is_ful
       let none = none_left (drop place (queue so.now)) (omega (arith, so.left still, all)) in
       subst (Goes core draft) (sym (so.same ∙ ap (fold says_call so.now) none)) so.goes
 ]
-
--- there is a next call
-pub so_far_next : {S : Type 0} (first : Filling S) (core : Contents) (draft : Draft) (place k count : ℕ) → (so : SoFar first core draft place k count) → draft.is_full ≡ false → k < count
-    → slice_get (queue so.now) place ≢ None
-so_far_next first core draft place k count so room less = λ none.
-    let gone = drop_none (queue so.now) place none in
-    absurd (omega (arith, so.left room, ap length gone, less))

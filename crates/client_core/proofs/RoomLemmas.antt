@@ -7,19 +7,20 @@ use Rattle.client_core.specs.Draft.{Draft, HasRoomFor, TakesUp, enters, filled_u
 
 -- ---- what comes into it
 
-pub takes_none : (bytes : ℕ) (draft : Draft) → TakesUp bytes draft draft
-takes_none bytes draft = record { same = refl; most = omega arith }
+pub takes_none : (bytes numbers : ℕ) (draft : Draft) → TakesUp bytes numbers draft draft
+takes_none bytes numbers draft = record { same = refl; most = omega arith; left = omega arith }
 
-pub takes_full : (bytes : ℕ) (old new : Draft) → new ≡ filled_up old → TakesUp bytes old new
-takes_full bytes old new is = subst (λ (draft : Draft). TakesUp bytes old draft) (sym is) (record { same = refl; most = omega arith })
+pub takes_full : {numbers : ℕ} (bytes : ℕ) (old new : Draft) → new ≡ filled_up old → TakesUp bytes numbers old new
+takes_full {numbers} bytes old new is = subst (λ (draft : Draft). TakesUp bytes numbers old draft) (sym is) (record { same = refl; most = omega arith; left = omega arith })
 
-pub takes_more : (few bytes : ℕ) (old new : Draft) → few ≤ bytes → TakesUp few old new → TakesUp bytes old new
-takes_more few bytes old new less takes = record { same = takes.same; most = omega (arith, takes.most) }
+pub takes_more : {numbers : ℕ} (few bytes : ℕ) (old new : Draft) → few ≤ bytes → TakesUp few numbers old new → TakesUp bytes numbers old new
+takes_more few bytes old new less takes = record { same = takes.same; most = omega (arith, takes.most); left = takes.left }
 
-pub takes_both : (one two bytes : ℕ) (x y z : Draft) → one + two ≤ bytes → TakesUp one x y → TakesUp two y z → TakesUp bytes x z
+pub takes_both : (one two bytes : ℕ) (x y z : Draft) → one + two ≤ bytes → TakesUp one 0 x y → TakesUp two 0 y z → TakesUp bytes 0 x z
 takes_both one two bytes x y z less first last = record {
   same = last.same ∙ first.same;
   most = omega (arith, first.most, last.most);
+  left = omega (arith, first.left, last.left);
 }
 
 -- ---- what is left
@@ -27,7 +28,7 @@ takes_both one two bytes x y z less first last = record {
 pub room_less : (few bytes : ℕ) (draft : Draft) → few ≤ bytes → HasRoomFor bytes draft → HasRoomFor few draft
 room_less few bytes draft less has = record { enough = λ small. (let enough = has.enough small in omega arith) }
 
-pub room_left : (one two bytes : ℕ) (old new : Draft) → one + two ≤ bytes → HasRoomFor bytes old → TakesUp one old new → HasRoomFor two new
+pub room_left : {numbers : ℕ} (one two bytes : ℕ) (old new : Draft) → one + two ≤ bytes → HasRoomFor bytes old → TakesUp one numbers old new → HasRoomFor two new
 room_left one two bytes old new less has takes = record {
   enough = λ small. (let enough = has.enough (omega (arith, takes.same)) in omega (arith, takes.same, takes.most));
 }

@@ -1,93 +1,21 @@
 -- What a rule says of one call, and of all.
-use Rattle.std.proofs.Common.{◌≡◌, ◌∙◌, ℕ, zero, suc, ◌-◌, Bool, true, false, List, [], ◌∷◌, map, ap, refl, Option, Some, None, arith}
+use Rattle.std.proofs.Common.{◌≡◌, ◌∙◌, ℕ, zero, suc, ◌-◌, Bool, List, [], ◌∷◌, map, ap, refl, Option, Some, None}
 use Rattle.std.specs.Prelude.{option_map, slice_get}
 use Rattle.call_table.specs.declared.call.CallNo.{CallNo}
 use Rattle.call_table.specs.declared.call.Fate.{Fate}
 use Rattle.call_table.specs.declared.call.Group.TheVariants.{Outstanding, Held, Queued}
-use Rattle.call_table.specs.declared.call.Under.{Under}
 use Rattle.call_table.specs.declared.row.Progress.{Progress}
 use Rattle.call_table.specs.declared.row.Progress.TheVariants as progress
 use Rattle.call_table.specs.declared.row.Row.{Row}
-use Rattle.call_table.specs.Table.{Call, Name, State, at, changed, changed_at, is_in, is_open, is_sent, living_name, living_name_in, settled, under_of}
+use Rattle.call_table.specs.Table.{Call, State, at, changed, changed_at, is_in, settled}
 use Rattle.call_table.specs.Table as table
-use Rattle.call_table.specs.Kept.{is_row_in, passes, settled_row, state_of, under_in}
-use Rattle.client_rules.specs.Learning.{fate_learning, fate_under}
+use Rattle.call_table.specs.Kept.{is_row_in, settled_row}
 use Rattle.client_core.specs.declared.settling.Rule.{Rule}
 use Rattle.client_core.specs.declared.settling.Rule.TheVariants as rule
-use Rattle.client_core.specs.Rules.{call_by, changed_if, fate_by, fate_in, fate_learnt_in, row_by}
+use Rattle.client_core.specs.Rules.{call_by, changed_if, fate_by, fate_in, row_by}
 use Rattle.client_core.proofs.CallLemmas.{same_at, value}
 
--- ---- one that is sent where a unique number is learnt
-
-learnt_progress : (is_first : Bool) (salt : ℕ) (one : Progress) (under : Under) → under_in one ≡ Some under → fate_learnt_in is_first salt one ≡ fate_under is_first salt under
-learnt_progress is_first salt (progress.Sent living own) under told = ap (λ now. fate_under is_first salt (value own now)) told
-learnt_progress is_first salt progress.Queued under told = absurd (grind (arith, told))
-learnt_progress is_first salt progress.Held under told = absurd (grind (arith, told))
-learnt_progress is_first salt (progress.Done bytes) under told = absurd (grind (arith, told))
-learnt_progress is_first salt (progress.Refused code) under told = absurd (grind (arith, told))
-learnt_progress is_first salt (progress.Unknown cause) under told = absurd (grind (arith, told))
-
-pub learnt_row : (is_first : Bool) (salt : ℕ) (own : Option Row) (under : Under) → option_map (λ row. under_in row.progress) own ≡ Some (Some under)
-    → option_map (λ row. fate_learnt_in is_first salt row.progress) own ≡ Some (fate_under is_first salt under)
-learnt_row is_first salt None under told = absurd (grind (arith, told))
-learnt_row is_first salt (Some row) under told = ap Some (learnt_progress is_first salt row.progress under (ap (value None) told))
-
-learnt_name : (is_first : Bool) (salt : ℕ) (own : Option Name) (under : Under) → option_map (λ name. under_of name.salts) own ≡ Some under → fate_learning is_first salt own ≡ fate_under is_first salt under
-learnt_name is_first salt None under told = absurd (grind (arith, told))
-learnt_name is_first salt (Some name) under told = ap (λ now. fate_under is_first salt (value (under_of name.salts) now)) told
-
-pub learnt_call : (is_first : Bool) (salt : ℕ) (own : Option Call) (under : Under) → option_map (λ one. option_map (λ name. under_of name.salts) (living_name one)) own ≡ Some (Some under)
-    → option_map (λ one. fate_learning is_first salt (living_name one)) own ≡ Some (fate_under is_first salt under)
-learnt_call is_first salt None under told = absurd (grind (arith, told))
-learnt_call is_first salt (Some call) under told = ap Some (learnt_name is_first salt (living_name call) under (ap (value None) told))
-
--- ---- one that isn't sent
-
-other_progress : (is_first : Bool) (salt : ℕ) (one : Progress) → is_sent (state_of one) ≡ false → fate_learnt_in is_first salt one ≡ None
-other_progress is_first salt (progress.Sent living own) told = absurd (grind (arith, told))
-other_progress is_first salt progress.Queued told = refl
-other_progress is_first salt progress.Held told = refl
-other_progress is_first salt (progress.Done bytes) told = refl
-other_progress is_first salt (progress.Refused code) told = refl
-other_progress is_first salt (progress.Unknown cause) told = refl
-
-pub other_row : (is_first : Bool) (salt : ℕ) (own : Option Row) → option_map (λ row. is_sent (state_of row.progress)) own ≡ Some false
-    → option_map (λ row. fate_learnt_in is_first salt row.progress) own ≡ Some None
-other_row is_first salt None told = absurd (grind (arith, told))
-other_row is_first salt (Some row) told = ap Some (other_progress is_first salt row.progress (ap (value false) told))
-
-other_state : (state : State) (names : List Name) → is_sent state ≡ false → living_name_in state names ≡ None
-other_state table.Sent names told = absurd (grind (arith, told))
-other_state table.Queued names told = refl
-other_state table.Held names told = refl
-other_state (table.Done bytes) names told = refl
-other_state (table.Refused code) names told = refl
-other_state (table.Unknown cause) names told = refl
-
-pub other_call : (is_first : Bool) (salt : ℕ) (own : Option Call) → option_map (λ one. is_sent one.state) own ≡ Some false
-    → option_map (λ one. fate_learning is_first salt (living_name one)) own ≡ Some None
-other_call is_first salt None told = absurd (grind (arith, told))
-other_call is_first salt (Some call) told = ap (λ name. Some (fate_learning is_first salt name)) (other_state call.state call.names (ap (value false) told))
-
 -- ---- one that something becomes of
-
-open_by : (rule : Rule) (one : Progress) (row : Row) (fate : Fate) → row.progress ≡ one → fate_in rule row ≡ Some fate → is_open (state_of one) ≡ true
-open_by rule (progress.Sent living own) row fate is told = refl
-open_by rule progress.Queued row fate is told = refl
-open_by rule progress.Held row fate is told = refl
-open_by rule.Renewed (progress.Done bytes) row fate is told = absurd (grind (arith, told, is))
-open_by rule.Renewed (progress.Refused code) row fate is told = absurd (grind (arith, told, is))
-open_by rule.Renewed (progress.Unknown cause) row fate is told = absurd (grind (arith, told, is))
-open_by rule.Ended (progress.Done bytes) row fate is told = absurd (grind (arith, told, is))
-open_by rule.Ended (progress.Refused code) row fate is told = absurd (grind (arith, told, is))
-open_by rule.Ended (progress.Unknown cause) row fate is told = absurd (grind (arith, told, is))
-open_by (rule.Learnt is_first salt) (progress.Done bytes) row fate is told = absurd (grind (arith, told, is))
-open_by (rule.Learnt is_first salt) (progress.Refused code) row fate is told = absurd (grind (arith, told, is))
-open_by (rule.Learnt is_first salt) (progress.Unknown cause) row fate is told = absurd (grind (arith, told, is))
-
-pub fate_open : (rule : Rule) (own : Option Row) (fate : Fate) → option_map (fate_in rule) own ≡ Some (Some fate) → passes is_open (option_map (λ row. state_of row.progress) own) ≡ true
-fate_open rule None fate told = absurd (grind (arith, told))
-fate_open rule (Some row) fate told = open_by rule row.progress row fate refl (ap (value None) told)
 
 row_settles : (rule : Rule) (own : Option Row) (fate : Fate) → option_map (fate_in rule) own ≡ Some (Some fate) → option_map (settled_row fate) own ≡ option_map (row_by rule) own
 row_settles rule None fate told = refl

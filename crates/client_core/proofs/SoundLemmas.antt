@@ -1,6 +1,6 @@
 -- Which changes keep the calls sound.
-use Rattle.std.proofs.Common.{◌≡◌, ℕ, zero, suc, ◌<◌, ◌≤◌, List, [], ◌∷◌, ◌++◌, Option, Some, None, length, arith}
-use Rattle.std.specs.Prelude.{◌%◌, IfSome}
+use Rattle.std.proofs.Common.{ℕ, zero, suc, ◌<◌, ◌≤◌, List, [], ◌∷◌, ◌++◌, Option, Some, None, arith}
+use Rattle.std.specs.Prelude.{IfSome}
 use Rattle.std.specs.List.{AllByRecursion}
 use Rattle.call_table.specs.declared.call.CallNo.{CallNo}
 use Rattle.call_table.specs.declared.call.Fate.{Fate}
@@ -11,9 +11,8 @@ use Rattle.call_table.specs.declared.row.Progress.{Progress}
 use Rattle.call_table.specs.declared.row.Progress.TheVariants as progress
 use Rattle.call_table.specs.declared.row.Row.{Row}
 use Rattle.call_table.specs.Table.{changed, changed_at}
-use Rattle.call_table.specs.Kept.{IsBelow, again_row, flagged_row, new_row, number_in, progress_again, sent_row, settled_row}
+use Rattle.call_table.specs.Kept.{again_row, flagged_row, number_in, progress_again, sent_row, settled_row}
 use Rattle.msg_ids.specs.Counters.{next_number}
-use Rattle.client_rules.specs.Asking.{body_bytes_max}
 use Rattle.client_core.specs.Sound.{IsSound, AreSound}
 
 pub all_changed : {X : Type 0} (P : X → Type 0) (f : X → X) → ((x : X) → P x → P (f x)) → (k : ℕ) (xs : List X) → AllByRecursion P xs → AllByRecursion P (changed_at k f xs)
@@ -63,12 +62,6 @@ pub sound_sent : (last : ℕ) (call : CallNo) (living : Living) (salt : ℕ) (ro
 sound_sent last call living salt rows given sound =
     all_changed (IsSound last) (sent_row living salt) (λ row is. record { words = is.words; short = is.short; given = given }) _ rows sound
 
--- a call is submitted
-pub sound_more : (last : ℕ) (rows : List Row) (body : List ℕ) (after : Option CallNo) → length body % 4 ≡ 0 → length body ≤ body_bytes_max → AreSound last rows
-    → AreSound last (rows ++ new_row body after ∷ [])
-sound_more last rows body after words short sound =
-    all_more (IsSound last) rows (new_row body after) sound (record { words = words; short = short; given = tt })
-
 -- further numbers were given
 later_given : (last later : ℕ) → last ≤ later → (own : Option ℕ) → IfSome own (λ number. number ≤ last) → IfSome own (λ number. number ≤ later)
 later_given last later le None given = tt
@@ -77,15 +70,6 @@ later_given last later le (Some number) given = omega (arith, le, given)
 pub sound_later : (last later : ℕ) (rows : List Row) → last ≤ later → AreSound last rows → AreSound later rows
 sound_later last later rows le sound =
     all_each (IsSound last) (IsSound later) (λ row is. record { words = is.words; short = is.short; given = later_given last later le (number_in row.progress) is.given }) rows sound
-
--- a number behind the last one is above all of them
-below_given : (last number : ℕ) → last < number → (own : Option ℕ) → IfSome own (λ living. living ≤ last) → IfSome own (λ living. living < number)
-below_given last number less None given = tt
-below_given last number less (Some living) given = omega (arith, less, given)
-
-pub sound_below : (last number : ℕ) (rows : List Row) → last < number → AreSound last rows → AllByRecursion (IsBelow number) rows
-sound_below last number rows less sound =
-    all_each (IsSound last) (IsBelow number) (λ row is. below_given last number less (number_in row.progress) is.given) rows sound
 
 -- the next number is behind the last one
 pub next_behind : (last now : ℕ) → last < next_number last now

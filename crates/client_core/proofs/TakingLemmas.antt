@@ -94,33 +94,6 @@ pub record IsUnderWay (outer : ℕ) (old now : Contents) (all left : List Incomi
   pub grows : length now.rest.learnt + length left ≤ length old.rest.learnt + length all
   pub stands : (client : Client) → Stands old client → (mid : Client) × (Stands now mid × (fold (takes_lesson outer) mid left ≡ fold (takes_lesson outer) client all))
 
-pub sets_out : (outer : ℕ) (old : Contents) (all left : List Incoming) → left ≡ all → length all ≤ old.room.resent → length all ≤ old.room.learnt → 0 < old.room.sessions
-    → AllByRecursion (λ lesson. IsFit lesson.brought) all → IsUnderWay outer old old all left
-sets_out outer old all left same resent learnt sessions fit = record {
-  resent = rw same resent;
-  learnt = rw same learnt;
-  sessions = sessions;
-  fit = rw same fit;
-  stays_open = λ is. is;
-  grows = rw same (omega arith);
-  stands = λ client stands. (client, (stands, rw same refl));
-}
-
-pub goes_on : (outer : ℕ) (old now after : Contents) (all left : List Incoming) (lesson : Incoming) → IsUnderWay outer old now all (lesson ∷ left)
-    → now.room.resent ≤ after.room.resent + 1 → now.room.learnt ≤ after.room.learnt + 1 → after.room.sessions ≡ now.room.sessions
-    → length after.rest.learnt ≤ length now.rest.learnt + 1 → (is_open now.rest ≡ true → is_open after.rest ≡ true)
-    → ((client : Client) → Stands now client → Stands after (takes_lesson outer client lesson))
-    → IsUnderWay outer old after all left
-goes_on outer old now after all left lesson way resent learnt sessions grows stays stands = record {
-  resent = omega (arith, way.resent, resent);
-  learnt = omega (arith, way.learnt, learnt);
-  sessions = rw sessions way.sessions;
-  fit = way.fit.1;
-  stays_open = λ is. stays (way.stays_open is);
-  grows = omega (arith, way.grows, grows);
-  stands = λ client was. let mid = way.stands client was in (takes_lesson outer mid.0 lesson, (stands mid.0 mid.1.0, mid.1.1));
-}
-
 -- the client has ended by this message
 pub ends : (outer : ℕ) (old now after : Contents) (all left : List Incoming) (lesson : Incoming) → IsUnderWay outer old now all (lesson ∷ left)
     → ((client : Client) → Stands now client → Stands (at_end after) (takes_lesson outer client lesson))
@@ -130,13 +103,6 @@ ends outer old now after all left lesson way stands client was =
     let last = stands mid.0 mid.1.0 in
     let over : (takes_lesson outer mid.0 lesson).has_ended ≡ true = sym (ap (λ rest. rest.has_ended) last.rest) in
     rw (sym mid.1.1, ended_stays outer (takes_lesson outer mid.0 lesson) left over) last
-
--- nothing is left
-pub arrives : (outer : ℕ) (old now : Contents) (all left : List Incoming) → IsUnderWay outer old now all left → length left ≡ 0
-    → (client : Client) → Stands old client → Stands now (fold (takes_lesson outer) client all)
-arrives outer old now all [] way none client was =
-    let mid = way.stands client was in rw (sym mid.1.1) mid.1.0
-arrives outer old now all (lesson ∷ left) way none client was = absurd (omega (arith, none))
 
 -- ---- whether it is open
 

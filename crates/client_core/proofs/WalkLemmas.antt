@@ -117,7 +117,7 @@ pub got_no : (own : Option ℕ) (call : CallNo) → option_map call_no own ≡ S
 got_no None call told = absurd (grind (arith, told))
 got_no (Some place) call told = ap Some (omega (arith, ap no_of told))
 
-none_there : (own : Option ℕ) → option_map call_no own ≡ None → own ≡ None
+pub none_there : (own : Option ℕ) → option_map call_no own ≡ None → own ≡ None
 none_there None told = refl
 none_there (Some place) told = absurd (grind (arith, told))
 

@@ -2,6 +2,7 @@
 -- rows of a packet say, without what they don't look at.
 use Rattle.std.specs.Prelude.{ℕ, ◌≤◌, ◌==◌, ◌&&◌, if◌then◌else◌, Bool, true, false, Option, Some, None, List, fold, length, replicate}
 use Rattle.tl_codec.specs.Standard.{bool_true, longs_max}
+use Rattle.service_tl.specs.Codes.{salt_code}
 use Rattle.service_tl.specs.declared.lists.Message.{Message}
 use Rattle.service_tl.specs.declared.item.Item.{Item}
 use Rattle.service_tl.specs.declared.item.Item.TheVariants.{RpcResult, NewSessionCreated, MsgsStateReq, MsgsStateInfo, MsgsAllInfo, MsgResendReq, MsgDetailedInfo, MsgNewDetailedInfo, BadMsgNotification, BadServerSalt}
@@ -34,7 +35,7 @@ states_of item = wish_of item
 
 abbrev pub notice_of : Item → Brought
 notice_of (BadMsgNotification about seq code) = brought.Notice about code None
-notice_of (BadServerSalt about seq code salt) = brought.Notice about 48 (Some salt)
+notice_of (BadServerSalt about seq code salt) = brought.Notice about salt_code (Some salt)
 notice_of item = states_of item
 
 abbrev pub brought_of : Item → Brought

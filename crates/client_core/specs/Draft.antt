@@ -19,7 +19,8 @@ use Rattle.client_core.specs.declared.saying.Outgoing.{Outgoing}
 use Rattle.client_core.specs.declared.saying.Outgoing.TheVariants.{Acks, Told, Resent, States, Pings, Salts, Destroys, Drops}
 
 -- what contracts see of it: the messages as they stand in a container, how many, the numbers of calls among them and of the
--- binding, whether an item didn't fit, the last message's number and seq, and the bytes for which there is room still
+-- binding, whether an item didn't fit, the last message's number and seq, and for how many bytes and how many of those
+-- numbers there is room still
 pub record Draft : Type 0 where
   pub rows : List ℕ
   pub count : ℕ
@@ -28,9 +29,10 @@ pub record Draft : Type 0 where
   pub number : ℕ
   pub seq : ℕ
   pub room : ℕ
+  pub numbers : ℕ
 
 abbrev pub nothing_yet : Draft
-nothing_yet = record { rows = []; count = 0; inner = []; is_full = false; number = 0; seq = 0; room = 0 }
+nothing_yet = record { rows = []; count = 0; inner = []; is_full = false; number = 0; seq = 0; room = 0; numbers = 0 }
 
 abbrev pub filled_up : Draft → Draft
 filled_up draft = record draft { is_full = true }
@@ -53,10 +55,11 @@ enters size draft =
 pub record HasRoomFor (bytes : ℕ) (draft : Draft) : Type 0 where
   pub enough : container_head + length draft.rows + draft.room < bytes_max → bytes ≤ draft.room
 
--- what comes into it takes up so many bytes of its room at most
-pub record TakesUp (bytes : ℕ) (old new : Draft) : Type 0 where
+-- what comes into it takes up at most so many bytes of its room, and so many numbers
+pub record TakesUp (bytes numbers : ℕ) (old new : Draft) : Type 0 where
   pub same : length new.rows + new.room ≡ length old.rows + old.room
   pub most : length new.rows ≤ length old.rows + bytes
+  pub left : old.numbers ≤ new.numbers + numbers
 
 -- a client and the packet that it fills stand for a filling
 pub record Goes {S : Type 0} (core : Contents) (draft : Draft) (filling : Filling S) : Type 0 where

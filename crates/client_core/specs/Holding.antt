@@ -2,10 +2,13 @@
 use Rattle.std.specs.Prelude.{◌≡◌, ℕ, ◌==◌, ◌||◌, ◌&&◌, not, if◌then◌else◌, Bool, true, false, Result, Ok, Err}
 use Rattle.std.specs.List.{list_any}
 use Rattle.octets.specs.declared.memory.Memory.{Memory}
+use Rattle.client_rules.specs.Asking.{pinged, salts_asked, ticked}
 use Rattle.client_rules.specs.Client.{Client, is_open}
 use Rattle.client_core.specs.Kept.{Contents, Stands}
 use Rattle.client_core.specs.declared.holder.Holder.{Holder}
 use Rattle.client_core.specs.declared.holder.Holder.TheVariants as holder
+use Rattle.client_core.specs.declared.moving.Wish.{Wish}
+use Rattle.client_core.specs.declared.moving.Wish.TheVariants as wish
 
 -- what is kept of it
 abbrev pub kept_of : Holder → Contents
@@ -51,6 +54,12 @@ phase_after Ended client = Ended
 -- an ended client does nothing
 abbrev pub unless_ended : (Client → Client) → Client → Client
 unless_ended does client = if client.has_ended then client else does client
+
+-- what an open client is asked to do
+abbrev pub wished : Wish → Client → Client
+wished wish.Tick client = ticked client
+wished (wish.Ping id) client = pinged id client
+wished (wish.Salts count) client = salts_asked count client
 
 -- By a packet it became this client, in its state; or memory ran out and it is the client that it was, in the state that it
 -- was in.

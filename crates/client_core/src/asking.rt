@@ -1,6 +1,6 @@
 //! A binding is asked for.
 
-ghost use Rattle.std.specs.Prelude.{◌≡◌, ◌≤◌, ◌<◌, ◌+◌, ◌++◌, ◌∷◌, [], ℕ, List, IfOk, IfSome, IsSome, length};
+ghost use Rattle.std.specs.Prelude.{◌≡◌, ◌≤◌, ◌<◌, ◌+◌, ◌++◌, ◌∷◌, [], ℕ, List, IfOk, IfSome, IsSome, IsTrue, if◌then◌else◌, length};
 ghost use Rattle.auth_keys.specs.Rings.{entry_of};
 ghost use Rattle.draws.specs.Draws.{draw_after, next_bytes, word_after};
 ghost use Rattle.service_tl.specs.Items.{spelling_of};
@@ -35,13 +35,14 @@ pub(crate) struct BindRoom {
 }
 
 impl BindRoom {
-    pub(crate) fn new(alloc: Global) -> Result<BindRoom, Memory>
-        ensures { IfOk result HasRoom }
+    /// Takes that room where a binding is to be asked for, and else none.
+    pub(crate) fn new(alloc: Global, is_needed: bool) -> Result<BindRoom, Memory>
+        ensures { IfOk result (λ room. IsTrue is_needed → HasRoom room) }
     {
         Ok(BindRoom {
-            message: Buffer::new(alloc, MESSAGE_BYTES)?,
-            plain: Buffer::new(alloc, PLAIN_BYTES)?,
-            body: Buffer::new(alloc, BODY_BYTES)?,
+            message: Buffer::new(alloc, bytes_if(is_needed, MESSAGE_BYTES))?,
+            plain: Buffer::new(alloc, bytes_if(is_needed, PLAIN_BYTES))?,
+            body: Buffer::new(alloc, bytes_if(is_needed, BODY_BYTES))?,
         })
     }
 
@@ -73,6 +74,13 @@ impl BindRoom {
         fill::bytes(&mut body, message.as_slice());
         body.into_octets()
     }
+}
+
+/// So many bytes where they are needed, and else none.
+pub(crate) fn bytes_if(is_needed: bool, bytes: usize) -> usize
+    ensures { result ≡ (if is_needed then bytes else 0) }
+{
+    if is_needed { bytes } else { 0 }
 }
 
 /// The body of a binding call has 132 bytes, whatever is drawn. Does nothing.

@@ -19,7 +19,7 @@ pub enum BindState {
 }
 
 /// The same, with the message that asked.
-#[derive(Debug, Drop)]
+#[derive(Drop)]
 pub(crate) enum Binding {
     Needed,
     Asked { number: u64, seq: u32, body: Octets },
@@ -63,7 +63,7 @@ impl Temporary {
 }
 
 /// What makes a client's key a temporary one.
-#[derive(Debug, Drop)]
+#[derive(Drop)]
 pub(crate) struct Temporary {
     pub(crate) perm: u64,
     pub(crate) expires: Moment,

@@ -129,10 +129,10 @@ fn unknown(alloc: Global, count: usize) -> Result<Octets, Memory>
     Ok(Octets::from(info))
 }
 
-/// What an item brings that asks for something.
-fn wish(alloc: Global, item: Item) -> Result<Brought, Memory>
-    requires { IsOfSchema item → ItemFits item }
-    ensures brought { IfOk result (λ brought. brought ≡ wish_of item) }
+/// What an item brings that asks for something. The item is let go elsewhere, in one place.
+fn wish(alloc: Global, item: &Item) -> Result<Brought, Memory>
+    requires { IsOfSchema item.now → ItemFits item.now }
+    ensures brought { IfOk result (λ brought. brought ≡ wish_of item.now) }
     ensures fit { IfOk result IsFit }
 {
     match item {
@@ -141,10 +141,21 @@ fn wish(alloc: Global, item: Item) -> Result<Brought, Memory>
         }),
         Item::MsgDetailedInfo { answer_msg_id, .. }
         | Item::MsgNewDetailedInfo { answer_msg_id, .. } => Ok(Brought::Waits {
-            answer: answer_msg_id,
+            answer: *answer_msg_id,
         }),
         _ => Ok(Brought::Nothing),
     }
+}
+
+/// The same of an item that is let go.
+fn wish_told(alloc: Global, item: Item) -> Result<Brought, Memory>
+    requires { IsOfSchema item → ItemFits item }
+    ensures brought { IfOk result (λ brought. brought ≡ wish_of item) }
+    ensures fit { IfOk result IsFit }
+{
+    let brought = wish(alloc, &item);
+    drop(item);
+    brought
 }
 
 /// What an item brings that tells states, or asks for something.
@@ -163,7 +174,7 @@ fn states(alloc: Global, item: Item) -> Result<Brought, Memory>
             info,
         }),
         Item::MsgResendReq { msg_ids } => Ok(Brought::Again { numbers: msg_ids }),
-        other => wish(alloc, other),
+        other => wish_told(alloc, other),
     }
 }
 
@@ -268,12 +279,12 @@ pub(crate) fn read_envelope(alloc: Global, envelope: &Envelope) -> Result<Vec<In
     ensures few { IfOk result (λ lessons. length lessons.items ≤ messages_max + 1) }
 {
     let body = envelope.body.as_slice();
-    let mut lessons = Vec::new(alloc);
     let first = Incoming {
         number: envelope.number,
         seq: envelope.seq,
         brought: read_body(alloc, body)?,
     };
+    let mut lessons = Vec::new(alloc);
     lessons.push(first)?;
     if is_container(body) {
         match Parts::read(envelope.number, body) {

@@ -38,8 +38,8 @@ pub(crate) struct Marked {
     pub(crate) message: Message,
 }
 
-/// How many bytes stand in front of the body of a call.
-pub(crate) fn wrap_size(wrap: Option<u64>) -> usize
+/// How many bytes stand in front of the body of a call, which is to execute after another where one is given.
+pub(crate) fn wrap_size<X: Copy>(wrap: Option<X>) -> usize
     ensures { result ≡ wrap_bytes wrap }
 {
     match wrap {

@@ -20,6 +20,7 @@ use msg_ids::{Moment, Numbers};
 use octets::Memory;
 use service_tl::{GZIP_PACKED, is_service};
 use std::alloc::Global;
+use std::fmt;
 use std::marker::Model;
 
 /// The most bytes of a call's body.
@@ -29,14 +30,14 @@ const BODY_BYTES_MAX: usize = 262_144;
 const WORD_BYTES: usize = 4;
 
 /// The server's time at a moment of the client's own.
-#[derive(Clone, Copy, Debug)]
+#[derive(Clone, Copy)]
 pub(crate) struct Clock {
     pub(crate) there: u64,
     pub(crate) here: Moment,
 }
 
 /// A client that hasn't ended.
-#[derive(Debug, Drop)]
+#[derive(Drop)]
 pub(crate) struct Core {
     pub(crate) key: u64,
     pub(crate) temporary: Option<Temporary>,
@@ -84,6 +85,17 @@ impl Model for Core {
     ghost invariant = { λ core. AreSound core.numbers.last core.calls.rows × CanBind core.temporary × (CanWait core.waiting × CanRenew core.learnt.numbers core.former.room) };
 }
 
+impl fmt::Debug for Core {
+    /// Its session, and how many calls it has: all of it would be long.
+    fn fmt<W: fmt::Write>(&self, f: &mut fmt::Formatter<W>) -> fmt::Result {
+        let calls = self.calls.count();
+        f.debug_struct("Core")
+            .field("session", &self.session)
+            .field("calls", &calls)
+            .finish_non_exhaustive()
+    }
+}
+
 impl Core {
     ghost use Rattle.draws.specs.Draws.{draw_after, word_after};
     ghost use Rattle.call_table.specs.Table.{Queued, call_no};
@@ -94,29 +106,50 @@ impl Core {
     ghost use Rattle.client_core.specs.Kept.{Stands};
     ghost use Rattle.client_core.specs.Told.{shown};
 
-    /// A client in a session whose number is drawn.
+    /// A client in a session whose number is drawn. It stands in a box: the client moves with each packet that it takes.
     pub(crate) fn new<D: Draw>(
         alloc: Global,
         key: u64,
         temporary: Option<Temporary>,
         draw: &mut D,
-    ) -> Result<Core, Memory>
+    ) -> Result<Box<Core>, Memory>
         requires { CanBind temporary }
-        ensures stands { IfOk result (λ core. Stands core (fresh_client key (option_map temporary_in temporary) (word_after D.step 0 draw.old))) }
+        ensures stands { IfOk result (λ core. Stands core.value (fresh_client key (option_map temporary_in temporary) (word_after D.step 0 draw.old))) }
         ensures after { OnOk result (draw.new ≡ draw_after D.step 1 draw.old) }
-        ensures learnt { IfOk result (λ core. core.rest.learnt ≡ []) }
-        ensures count { IfOk result (λ core. length core.calls.rows ≡ 0) }
+        ensures learnt { IfOk result (λ core. core.value.rest.learnt ≡ []) }
+        ensures count { IfOk result (λ core. length core.value.calls.rows ≡ 0) }
         ensures unchanged_on_memory { OnErr result (draw.new ≡ draw.old) }
     {
-        let calls = Calls::new(alloc)?;
+        let mut core = Box::new(alloc, Core::fresh(alloc, key, temporary)?)?;
+        core.begins(draw.word());
+        Ok(core)
+    }
+
+    // The session of a client that has sent nothing.
+    fn begins(&mut self, session: u64)
+        ensures stands { (client : Client) → Stands self.old client → Stands self.new (record client { session = session }) }
+        ensures learnt { self.new.rest.learnt ≡ self.old.rest.learnt }
+        ensures calls { self.new.calls ≡ self.old.calls }
+    {
+        self.session = session;
+    }
+
+    // A client whose session has no number yet.
+    fn fresh(alloc: Global, key: u64, temporary: Option<Temporary>) -> Result<Core, Memory>
+        requires { CanBind temporary }
+        ensures stands { IfOk result (λ core. Stands core (fresh_client key (option_map temporary_in temporary) 0)) }
+        ensures learnt { IfOk result (λ core. core.rest.learnt ≡ []) }
+        ensures count { IfOk result (λ core. length core.calls.rows ≡ 0) }
+    {
         let mut former = NumberList::new(alloc);
         former.reserve(1)?;
+        let calls = Calls::new(alloc)?;
         let learnt = NumberList::new(alloc);
         let waiting = Waiting::new(alloc);
         Ok(Core {
             key,
             temporary,
-            session: draw.word(),
+            session: 0,
             former,
             salt: 0,
             learnt,

@@ -10,7 +10,7 @@ use std::marker::Model;
 /// stands for.
 #[derive(Debug, Drop)]
 pub struct EndedClient {
-    pub(crate) core: Core,
+    pub(crate) core: Box<Core>,
 }
 
 impl Model for EndedClient {
@@ -19,7 +19,7 @@ impl Model for EndedClient {
 
     ghost Value = { Contents };
 
-    ghost view = { λ client. at_end client.core };
+    ghost view = { λ client. at_end client.core.value };
 }
 
 impl EndedClient {

@@ -7,10 +7,12 @@ ghost use Rattle.service_tl.specs.declared.lists.Message.{Message};
 ghost use Rattle.service_tl.specs.Items.{spelling_of};
 ghost use Rattle.byteorder.specs.Endian.{little_bytes};
 ghost use Rattle.containers.specs.Container.{bytes_max, container_head, message_head, messages_max, row};
+ghost use Rattle.envelope.specs.Packet.{sealed_size, to_seal};
 ghost use Rattle.packing.specs.Packing.{packed};
 ghost use Rattle.client_rules.specs.Asking.{body_bytes_max};
 ghost use Rattle.client_rules.specs.Filling.{body_behind};
 ghost use Rattle.client_core.specs.Calling.{call_message, wrap_bytes};
+ghost use Rattle.client_core.specs.Filled.{CanBeSealed, body_in};
 ghost use Rattle.client_core.specs.Draft.{CanBeSaid, HasRoomFor, Holds, TakesUp, enters, filled_up, item_of, needs_answer, nothing_yet, said_bytes, said_message};
 
 use crate::calling::{put_call, sizes_of_calls, wrap_size};
@@ -19,20 +21,21 @@ use containers::laws::container_sizes;
 use containers::{
     CONTAINER_BYTES_MAX, CONTAINER_HEAD_BYTES, CONTAINER_MESSAGES_MAX, MESSAGE_HEAD_BYTES, fits,
 };
+use envelope::SEALED_HEAD_BYTES;
 use msg_ids::{Moment, Numbers};
-use octets::{Buffer, IdList, Memory, Octets};
+use octets::{Buffer, IdList, Memory};
 use service_tl::MSG_CONTAINER;
 use std::alloc::Global;
 use std::marker::Model;
 
-/// What a packet was filled with: how many messages, the last one's number and seq, the packet's body, and the numbers of
-/// the calls in it and of the binding.
+/// What a packet was filled with: how many messages, the last one's number and seq, the packet's body behind room for what
+/// a seal puts in front, and the numbers of the calls in it and of the binding.
 #[derive(Drop)]
 pub(crate) struct Filled {
     pub(crate) count: usize,
     pub(crate) number: u64,
     pub(crate) seq: u32,
-    pub(crate) body: Octets,
+    pub(crate) text: Buffer,
     pub(crate) inner: IdList,
 }
 
@@ -50,7 +53,7 @@ pub(crate) struct Draft {
 }
 
 impl Model for Draft {
-    ghost use Rattle.std.specs.Prelude.{◌≡◌, ◌≤◌, ◌+◌, ◌*◌, ◌%◌, length, vec_len, vec_capacity};
+    ghost use Rattle.std.specs.Prelude.{◌≡◌, ◌≤◌, ◌+◌, ◌-◌, ◌*◌, ◌%◌, length, vec_len, vec_capacity};
     ghost use Rattle.containers.specs.Container.{bytes_max, container_head, message_head, messages_max};
     ghost use Rattle.client_core.specs.Draft.{Draft};
 
@@ -64,24 +67,26 @@ impl Model for Draft {
       number = draft.number;
       seq = draft.seq;
       room = draft.rows.room;
+      numbers = vec_capacity draft.inner - vec_len draft.inner;
     } };
 
     ghost invariant = { λ draft. (container_head + length draft.rows.bytes ≤ bytes_max)
         × (draft.count ≤ messages_max) × (length draft.rows.bytes % 4 ≡ 0)
-        × (message_head * draft.count ≤ length draft.rows.bytes) × (vec_len draft.inner ≤ draft.count) × (messages_max ≤ vec_capacity draft.inner) };
+        × (message_head * draft.count ≤ length draft.rows.bytes) × (vec_len draft.inner ≤ draft.count) };
 }
 
 impl Draft {
-    /// No message yet, and room for so many bytes of messages.
-    pub(crate) fn new(alloc: Global, bytes: usize) -> Result<Draft, Memory>
-        ensures empty { IfOk result (λ draft. draft ≡ record nothing_yet { room = bytes }) }
+    /// No message yet, and room for so many bytes of messages, and so many numbers of calls and of a binding.
+    pub(crate) fn new(alloc: Global, bytes: usize, numbers: usize) -> Result<Draft, Memory>
+        ensures empty { IfOk result (λ draft. draft ≡ record nothing_yet { room = bytes; numbers = draft.numbers }) }
+        ensures numbers { IfOk result (λ draft. numbers ≤ draft.numbers) }
         ensures holds { IfOk result (λ draft. Holds draft []) }
     {
         container_sizes();
         Ok(Draft {
             rows: Buffer::new(alloc, bytes)?,
             count: 0,
-            inner: Vec::with_capacity(alloc, CONTAINER_MESSAGES_MAX)?,
+            inner: Vec::with_capacity(alloc, numbers)?,
             is_full: false,
             number: 0,
             seq: 0,
@@ -116,7 +121,7 @@ impl Draft {
         ensures inner { IsTrue result → self.new.inner ≡ self.old.inner }
         ensures open { IsTrue result → self.new.is_full ≡ self.old.is_full }
         ensures full { IsFalse result → self.new ≡ filled_up self.old }
-        ensures takes { TakesUp (message_head + said_bytes said.now) self.old self.new }
+        ensures takes { TakesUp (message_head + said_bytes said.now) 0 self.old self.new }
         ensures uncounted { IsFalse result → numbers.new ≡ numbers.old }
         ensures room_lasts { self.old.count + room numbers.old ≤ self.new.count + room numbers.new }
     {
@@ -146,6 +151,7 @@ impl Draft {
         requires short { length body.now ≤ body_bytes_max }
         requires numbers { messages_max < self.old.count + room numbers.old }
         requires room { self.old.count < messages_max → HasRoomFor (message_head + (wrap_bytes wrap + length body.now)) self.old }
+        requires place { self.old.count < messages_max → 0 < self.old.numbers }
         ensures told { is_some result ≡ enters (wrap_bytes wrap + length body.now) self.old }
         ensures given { IfSome result (λ given. given ≡ (next_number numbers.old.last at, seq_of numbers.old.content_messages true)) }
         ensures counted { OnSome result (numbers.new ≡ after_next numbers.old at true) }
@@ -156,7 +162,7 @@ impl Draft {
         ensures size { length (body_behind wrap body.now) ≡ wrap_bytes wrap + length body.now }
         ensures few { OnSome result (self.old.count < messages_max) }
         ensures full { IfNone result (self.new ≡ filled_up self.old) }
-        ensures takes { TakesUp (message_head + (wrap_bytes wrap + length body.now)) self.old self.new }
+        ensures takes { TakesUp (message_head + (wrap_bytes wrap + length body.now)) 1 self.old self.new }
         ensures uncounted { IfNone result (numbers.new ≡ numbers.old) }
         ensures room_lasts { self.old.count + room numbers.old ≤ self.new.count + room numbers.new }
     {
@@ -181,7 +187,8 @@ impl Draft {
         requires words { length body.now % 4 ≡ 0 }
         requires short { length body.now ≤ body_bytes_max }
         requires room { HasRoomFor (message_head + length body.now) self.old }
-        ensures takes { TakesUp (message_head + length body.now) self.old self.new }
+        requires place { 0 < self.old.numbers }
+        ensures takes { TakesUp (message_head + length body.now) 1 self.old self.new }
         ensures holds { (messages : List Message) → Holds self.old messages
             → Holds self.new (messages ++ record { number = number; seq = seq; body = body.now } ∷ []) }
         ensures inner { self.new.inner ≡ self.old.inner ++ number ∷ [] }
@@ -203,18 +210,16 @@ impl Draft {
         self.is_full
     }
 
-    /// The packet's body, in room that was taken before. What room the numbers leave over is given up.
-    pub(crate) fn finish(self, mut body: Buffer) -> Filled
-        requires empty { body.bytes ≡ [] }
-        requires room { container_head + length self.rows ≤ body.room }
-        ensures fits { length result.body ≤ container_head + length self.rows }
+    /// What it was filled with, in room for its packet that was taken before. What room the numbers leave over is given up.
+    pub(crate) fn finish(self, mut packet: Buffer) -> Filled
+        requires empty { packet.bytes ≡ [] }
+        requires room { sealed_size (container_head + length self.rows) ≤ packet.room }
+        ensures can_be_sealed { CanBeSealed result }
         ensures count { result.count ≡ self.count }
-        ensures body { (messages : List Message) → Holds self messages → result.body ≡ packed messages }
+        ensures body { (messages : List Message) → Holds self messages → body_in result ≡ packed messages }
         ensures number { result.number ≡ self.number }
         ensures seq { result.seq ≡ self.seq }
         ensures inner { result.inner ≡ self.inner }
-        ensures words { length result.body % 4 ≡ 0 }
-        ensures short { length result.body ≤ bytes_max }
         ensures few { result.count ≤ messages_max }
     {
         let Draft {
@@ -226,12 +231,12 @@ impl Draft {
             seq,
         } = self;
         inner.shrink_to_fit();
-        put_packet(&mut body, count, rows.as_slice());
+        put_packet(&mut packet, count, rows.as_slice());
         Filled {
             count,
             number,
             seq,
-            body: body.into_octets(),
+            text: packet,
             inner: IdList::from(inner),
         }
     }
@@ -272,24 +277,27 @@ fn put_said(rows: &mut Buffer, number: u64, seq: u32, said: &Outgoing<'_>)
     spell(rows, said);
 }
 
-// Puts the body of a packet at the end, of so many messages as they stand in a container.
-fn put_packet(body: &mut Buffer, count: usize, rows: &[u8])
+// Puts the body of a packet of so many messages as they stand in a container, behind room for what a seal puts in front.
+fn put_packet(packet: &mut Buffer, count: usize, rows: &[u8])
     requires few { count ≤ messages_max }
     requires heads { message_head * count ≤ length rows.now }
-    requires room { container_head + length rows.now ≤ body.old.room }
+    requires room { 56 + (container_head + length rows.now) ≤ packet.old.room }
     requires words { length rows.now % 4 ≡ 0 }
-    requires empty { body.old.bytes ≡ [] }
-    ensures packet { (messages : List Message) → rows.now ≡ flat_map row messages → count ≡ length messages → body.new.bytes ≡ packed messages }
-    ensures words { length body.new.bytes % 4 ≡ 0 }
-    ensures short { length body.new.bytes ≤ container_head + length rows.now }
+    requires empty { packet.old.bytes ≡ [] }
+    ensures packet { (messages : List Message) → rows.now ≡ flat_map row messages → count ≡ length messages → to_seal packet.new.bytes ≡ packed messages }
+    ensures front { 56 ≤ length packet.new.bytes }
+    ensures words { length (to_seal packet.new.bytes) % 4 ≡ 0 }
+    ensures short { length (to_seal packet.new.bytes) ≤ container_head + length rows.now }
+    ensures room { length packet.new.bytes + packet.new.room ≡ packet.old.room }
 {
+    packet.push_all(&[0; SEALED_HEAD_BYTES]);
     if count == 1 {
-        body.push_all(&rows[MESSAGE_HEAD_BYTES..]);
+        packet.push_all(&rows[MESSAGE_HEAD_BYTES..]);
         return;
     }
-    body.push_all(&MSG_CONTAINER.to_le_bytes());
-    body.push_all(&(count as u32).to_le_bytes());
-    body.push_all(rows);
+    packet.push_all(&MSG_CONTAINER.to_le_bytes());
+    packet.push_all(&(count as u32).to_le_bytes());
+    packet.push_all(rows);
 }
 
 // Puts the head of a message whose body comes next.

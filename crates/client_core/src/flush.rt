@@ -1,11 +1,11 @@
 //! What a client sends next.
 
-ghost use Rattle.std.specs.Prelude.{◌≡◌, ◌≤◌, ◌+◌, [], None, IfOk, IfSome, IsSome, min, nat_lt, false, true, OnOk, vec_len, vec_capacity, length};
+ghost use Rattle.std.specs.Prelude.{◌≡◌, ◌≤◌, ◌+◌, ◌-◌, [], None, IfOk, IfSome, IsSome, min, nat_lt, false, true, OnOk, vec_len, vec_capacity, length};
 ghost use Rattle.auth_keys.specs.Rings.{entry_of};
 ghost use Rattle.call_table.specs.Table.{group_of};
 ghost use Rattle.call_table.specs.Kept.{numbers_in};
 ghost use Rattle.call_table.specs.declared.call.Group.TheVariants.{Alone};
-ghost use Rattle.containers.specs.Container.{bytes_max, container_head, messages_max};
+ghost use Rattle.containers.specs.Container.{bytes_max, container_head};
 ghost use Rattle.envelope.specs.Packet.{sealed_size};
 ghost use Rattle.msg_ids.specs.Counters.{room as numbers_left};
 ghost use Rattle.client_rules.specs.Client.{Client, at_moment, calls_of};
@@ -17,7 +17,7 @@ ghost use Rattle.client_core.specs.Due.{is_due_beside};
 ghost use Rattle.client_core.specs.Flushed.{Flushes, Sent, setting_of};
 ghost use Rattle.client_core.specs.Keys.{HasKeys, keys_in};
 ghost use Rattle.client_core.specs.Kept.{Stands};
-ghost use Rattle.client_core.specs.Owed.{asked_count, owed_bytes};
+ghost use Rattle.client_core.specs.Owed.{asked_count, calls_most, needs_binding, owed_bytes, owed_numbers};
 ghost use Rattle.client_core.specs.Sealing.{TellsSealed};
 
 use crate::asking::BindRoom;
@@ -27,8 +27,8 @@ use crate::filling::Draft;
 use crate::lone::binding_alone;
 use crate::open::OpenClient;
 use crate::opening::OpeningClient;
+use containers::CONTAINER_HEAD_BYTES;
 use containers::laws::container_sizes;
-use containers::{CONTAINER_HEAD_BYTES, CONTAINER_MESSAGES_MAX};
 use draws::Draw;
 use envelope::{Seal, packet_bytes};
 use msg_ids::Moment;
@@ -48,46 +48,56 @@ pub enum Flush {
     Memory,
 }
 
-/// Room for a packet: for lists of the acknowledgements and of the numbers of calls, a binding call, the messages, the
-/// packet's body and the packet.
+/// Room for a packet: for lists of the acknowledgements and of the numbers of calls, a binding call, the messages, and the
+/// packet.
 #[derive(Drop)]
 pub(crate) struct PacketRoom {
     acks: Vec<u64>,
     states: Vec<u64>,
     binding: BindRoom,
     draft: Draft,
-    body: Buffer,
     packet: Buffer,
 }
 
-impl PacketRoom {
-    /// Room for a packet of so many bytes of messages, for so many acknowledgements, and for so many numbers of calls.
-    fn new(alloc: Global, acks: usize, states: usize, bytes: usize) -> Result<PacketRoom, Memory>
-        requires { container_head + bytes ≤ bytes_max }
+impl Core {
+    /// Takes room for a packet of what waits: for what may go, worked out first, and no more.
+    fn packet_room(&self, alloc: Global) -> Result<PacketRoom, Memory>
         ensures no_acks { IfOk result (λ room. (room.acks.items ≡ []) × (vec_len room.acks ≡ 0)) }
-        ensures acks { IfOk result (λ room. acks ≤ vec_capacity room.acks) }
+        ensures acks { IfOk result (λ room. length self.now.calls.acks ≤ vec_capacity room.acks) }
         ensures no_states { IfOk result (λ room. (room.states.items ≡ []) × (vec_len room.states ≡ 0)) }
-        ensures states { IfOk result (λ room. states ≤ vec_capacity room.states) }
-        ensures binding { IfOk result (λ room. HasRoom room.binding) }
-        ensures draft { IfOk result (λ room. room.draft ≡ record nothing_yet { room = bytes }) }
-        ensures no_body { IfOk result (λ room. room.body.bytes ≡ []) }
-        ensures body { IfOk result (λ room. container_head + bytes ≤ room.body.room) }
-        ensures no_packet { IfOk result (λ room. room.packet.bytes ≡ []) }
-        ensures packet { IfOk result (λ room. sealed_size (container_head + bytes) ≤ room.packet.room) }
+        ensures states { IfOk result (λ room. asked_count self.now.rest.waiting.states self.now.calls.rows ≤ vec_capacity room.states) }
+        ensures binding { IfOk result (λ room. needs_binding self.now.rest ≡ true → HasRoom room.binding) }
+        ensures draft { IfOk result (λ room. room.draft ≡ record nothing_yet { room = min (owed_bytes self.now) (bytes_max - container_head); numbers = room.draft.numbers }) }
+        ensures numbers { IfOk result (λ room. owed_numbers self.now ≤ room.draft.numbers) }
+        ensures packet { IfOk result (λ room. room.packet ≡ record { bytes = []; room = sealed_size (container_head + min (owed_bytes self.now) (bytes_max - container_head)) }) }
     {
         container_sizes();
+        let bytes = self.owed_bytes();
         Ok(PacketRoom {
-            acks: Vec::with_capacity(alloc, acks)?,
-            states: Vec::with_capacity(alloc, states)?,
-            binding: BindRoom::new(alloc)?,
-            draft: Draft::new(alloc, bytes)?,
-            body: Buffer::new(alloc, CONTAINER_HEAD_BYTES + bytes)?,
+            acks: Vec::with_capacity(alloc, self.calls.acks())?,
+            states: Vec::with_capacity(alloc, self.asked_count())?,
+            binding: BindRoom::new(alloc, self.needs_binding())?,
+            draft: Draft::new(alloc, bytes, self.owed_numbers())?,
             packet: Buffer::new(alloc, packet_bytes(CONTAINER_HEAD_BYTES + bytes))?,
         })
     }
-}
 
-impl Core {
+    /// Takes room for the calls of a packet.
+    ///
+    /// # Errors
+    ///
+    /// `Memory`: memory ran out, and the client is as it was.
+    fn reserve_calls(&mut self, alloc: Global) -> Result<(), Memory>
+        ensures reserved { OnOk result (calls_most self.new ≤ self.new.calls.room) }
+        ensures stands { (client : Client) → Stands self.old client → Stands self.new client }
+        ensures rest { self.new.rest ≡ self.old.rest }
+        ensures acks { self.new.calls.acks ≡ self.old.calls.acks }
+        ensures rows { self.new.calls.rows ≡ self.old.calls.rows }
+    {
+        let count = self.calls_most();
+        self.calls.reserve(alloc, count)
+    }
+
     /// Fills a packet and sends it, where it has a message.
     fn send_fresh<S: Seal, D: Draw>(
         &mut self,
@@ -99,16 +109,15 @@ impl Core {
         requires key { IsSome (entry_of self.old.rest.key (S.keys seal.now)) }
         requires perm { IfSome self.old.rest.temporary (λ temporary. IsSome (entry_of temporary.perm (S.keys seal.now))) }
         requires numbers { nat_lt (numbers_left self.old.rest.counters) room_min ≡ false }
-        requires reserved { messages_max ≤ self.old.calls.room }
+        requires reserved { calls_most self.old ≤ self.old.calls.room }
         requires no_acks { (room.acks.items ≡ []) × (vec_len room.acks ≡ 0) }
         requires acks { length self.old.calls.acks ≤ vec_capacity room.acks }
         requires no_states { (room.states.items ≡ []) × (vec_len room.states ≡ 0) }
         requires states { asked_count self.old.rest.waiting.states self.old.calls.rows ≤ vec_capacity room.states }
-        requires binding { HasRoom room.binding }
-        requires draft { room.draft ≡ record nothing_yet { room = room.draft.room } }
+        requires binding { needs_binding self.old.rest ≡ true → HasRoom room.binding }
+        requires draft { room.draft ≡ record nothing_yet { room = room.draft.room; numbers = room.draft.numbers } }
         requires owed { HasRoomFor (owed_bytes self.old) room.draft }
-        requires no_body { room.body.bytes ≡ [] }
-        requires body { container_head + room.draft.room ≤ room.body.room }
+        requires places { owed_numbers self.old ≤ room.draft.numbers }
         requires no_packet { room.packet.bytes ≡ [] }
         requires packet { sealed_size (container_head + room.draft.room) ≤ room.packet.room }
         ensures sent { (client : Client) → Stands self.old client
@@ -122,12 +131,11 @@ impl Core {
             states,
             binding,
             mut draft,
-            body,
             packet,
         } = room;
         self.at(now);
         self.fills(&mut draft, acks, states, binding, seal, draw);
-        self.send_draft(draft, body, packet, seal, draw)
+        self.send_draft(draft, packet, seal, draw)
     }
 
     /// Takes room for what waits and sends a packet of it, where it has a message.
@@ -148,30 +156,13 @@ impl Core {
             → Flushes (setting_of D.step (S.keys seal.now)) S.lock (S.keys seal.now) now client draw.old result self.new draw.new }
         ensures learnt { self.new.rest.learnt ≡ self.old.rest.learnt }
     {
-        let bytes = self.owed_bytes();
-        match PacketRoom::new(alloc, self.calls.acks(), self.asked_count(), bytes) {
+        match self.reserve_calls(alloc) {
             Err(Memory) => Flush::Memory,
-            Ok(room) => match self.reserve_calls(alloc) {
+            Ok(()) => match self.packet_room(alloc) {
                 Err(Memory) => Flush::Memory,
-                Ok(()) => Flush::Packet(self.send_fresh(now, room, seal, draw)),
+                Ok(room) => Flush::Packet(self.send_fresh(now, room, seal, draw)),
             },
         }
-    }
-
-    /// Takes room for the calls of a packet.
-    ///
-    /// # Errors
-    ///
-    /// `Memory`: memory ran out, and the client is as it was.
-    fn reserve_calls(&mut self, alloc: Global) -> Result<(), Memory>
-        ensures reserved { OnOk result (messages_max ≤ self.new.calls.room) }
-        ensures stands { (client : Client) → Stands self.old client → Stands self.new client }
-        ensures rest { self.new.rest ≡ self.old.rest }
-        ensures acks { self.new.calls.acks ≡ self.old.calls.acks }
-        ensures rows { self.new.calls.rows ≡ self.old.calls.rows }
-    {
-        container_sizes();
-        self.calls.reserve(alloc, CONTAINER_MESSAGES_MAX)
     }
 
     /// Sends what waits and the queued calls, where nothing goes alone.

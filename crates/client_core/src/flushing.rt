@@ -3,28 +3,27 @@
 ghost use Rattle.std.specs.Prelude.{◌≡◌, ◌≤◌, ◌<◌, ◌+◌, ◌%◌, ℕ, [], List, IfSome, IsSome, false, true, length, min, vec_len, vec_capacity};
 ghost use Rattle.auth_keys.specs.Rings.{entry_of};
 ghost use Rattle.call_table.specs.Kept.{numbers_in};
-ghost use Rattle.containers.specs.Container.{bytes_max, container_head, messages_max};
+ghost use Rattle.containers.specs.Container.{container_head};
 ghost use Rattle.envelope.specs.Packet.{sealed_size};
-ghost use Rattle.msg_ids.specs.Counters.{after_next, next_number, room, seq_of};
+ghost use Rattle.msg_ids.specs.Counters.{room};
 ghost use Rattle.client_rules.specs.Client.{Client, after_message, numbered};
 ghost use Rattle.client_rules.specs.Filling.{Filling, empty, fills, numbers_max};
 ghost use Rattle.client_rules.specs.Flush.{has_any, remembers, remembers_lone, sends};
 ghost use Rattle.client_rules.specs.Sending.{draw_after_packet, packet_of};
 ghost use Rattle.client_core.specs.Asked.{HasRoom};
 ghost use Rattle.client_core.specs.Draft.{Goes, HasNumbers, HasRoomFor, TakesUp};
-ghost use Rattle.client_core.specs.Filled.{IsPacked, lone_of, waiting_said};
+ghost use Rattle.client_core.specs.Filled.{CanBeSealed, IsPacked, body_in, lone_of, waiting_said};
 ghost use Rattle.client_core.specs.Flushed.{IsSealed, Sent, setting_of};
 ghost use Rattle.client_core.specs.Kept.{Stands};
-ghost use Rattle.client_core.specs.Owed.{asked_count, owed_bytes, waiting_bytes};
+ghost use Rattle.client_core.specs.Owed.{asked_count, calls_most, needs_binding, owed_bytes, owed_numbers, waiting_bytes};
 
 use crate::asking::BindRoom;
 use crate::core_client::Core;
 use crate::filling::{Draft, Filled};
+use crate::says::given;
 use draws::Draw;
 use envelope::Seal;
-use msg_ids::{Moment, Numbers};
 use octets::{Buffer, Octets};
-use service_tl::Message;
 
 impl Core {
     /// What waits beside the calls and the binding goes, as far as it fits. The lists have room for the acknowledgements
@@ -38,7 +37,7 @@ impl Core {
         requires states { asked_count self.old.rest.waiting.states self.old.calls.rows ≤ vec_capacity states }
         ensures goes { (filling : Filling D) → Goes self.old draft.old filling → Goes self.new draft.new (waiting_said filling) }
         ensures numbers { HasNumbers self.new draft.new }
-        ensures takes { TakesUp (waiting_bytes self.old) draft.old draft.new }
+        ensures takes { TakesUp (waiting_bytes self.old) 0 draft.old draft.new }
         ensures rows { self.new.calls.rows ≡ self.old.calls.rows }
         ensures temporary { self.new.rest.temporary ≡ self.old.rest.temporary }
         ensures key { self.new.rest.key ≡ self.old.rest.key }
@@ -70,8 +69,9 @@ impl Core {
         requires no_states { (states.items ≡ []) × (vec_len states ≡ 0) }
         requires acks { length self.old.calls.acks ≤ vec_capacity acks }
         requires states { asked_count self.old.rest.waiting.states self.old.calls.rows ≤ vec_capacity states }
-        requires binding { HasRoom binding }
-        requires reserved { messages_max ≤ self.old.calls.room }
+        requires binding { needs_binding self.old.rest ≡ true → HasRoom binding }
+        requires reserved { calls_most self.old ≤ self.old.calls.room }
+        requires places { owed_numbers self.old ≤ draft.old.numbers }
         requires perm { IfSome self.old.rest.temporary (λ temporary. IsSome (entry_of temporary.perm (S.keys seal.now))) }
         ensures goes { (client : Client) → Goes self.old draft.old (empty client draw.old) → Goes self.new draft.new (fills (setting_of D.step (S.keys seal.now)) client draw.old) }
         ensures drawn { (client : Client) → Goes self.old draft.old (empty client draw.old) → draw.new ≡ (fills (setting_of D.step (S.keys seal.now)) client draw.old).draw }
@@ -87,18 +87,9 @@ impl Core {
     }
 
     /// Sends the only message of a packet as it is.
-    fn send_lone<S: Seal, D: Draw>(
-        &mut self,
-        filled: Filled,
-        packet: Buffer,
-        seal: &S,
-        draw: &mut D,
-    ) -> Octets
+    fn send_lone<S: Seal, D: Draw>(&mut self, filled: Filled, seal: &S, draw: &mut D) -> Octets
         requires key { IsSome (entry_of self.old.rest.key (S.keys seal.now)) }
-        requires words { length filled.body % 4 ≡ 0 }
-        requires short { length filled.body ≤ bytes_max }
-        requires empty { packet.bytes ≡ [] }
-        requires room { sealed_size (length filled.body) ≤ packet.room }
+        requires can_be_sealed { CanBeSealed filled }
         ensures stands { (client : Client) → Stands self.old client → Stands self.new (remembers_lone filled.number filled.inner client) }
         ensures sealed { (client : Client) → Stands self.new client
             → IsSealed S.lock (S.keys seal.now) (packet_of (setting_of D.step (S.keys seal.now)) client draw.old (lone_of filled)) result }
@@ -109,62 +100,43 @@ impl Core {
             count: _,
             number,
             seq,
-            body,
+            text,
             inner,
         } = filled;
         self.remember_lone(number, inner);
-        let message = Message { number, seq, body };
-        self.sealed(seal, packet, message, draw)
+        self.sealed_in_place(seal, text, number, seq, draw)
     }
 
     /// Sends the messages of a packet in a container, which gets its number now.
-    fn send_container<S: Seal, D: Draw>(
-        &mut self,
-        filled: Filled,
-        packet: Buffer,
-        seal: &S,
-        draw: &mut D,
-    ) -> Octets
+    fn send_container<S: Seal, D: Draw>(&mut self, filled: Filled, seal: &S, draw: &mut D) -> Octets
         requires key { IsSome (entry_of self.old.rest.key (S.keys seal.now)) }
-        requires words { length filled.body % 4 ≡ 0 }
-        requires short { length filled.body ≤ bytes_max }
-        requires empty { packet.bytes ≡ [] }
-        requires room { sealed_size (length filled.body) ≤ packet.room }
+        requires can_be_sealed { CanBeSealed filled }
         requires numbers { 0 < room self.old.rest.counters }
         ensures stands { (client : Client) → Stands self.old client
-            → Stands self.new (remembers (numbered false filled.body client).number filled.inner (after_message false client)) }
+            → Stands self.new (remembers (numbered false (body_in filled) client).number filled.inner (after_message false client)) }
         ensures sealed { (client : Client) → Stands self.old client
-            → IsSealed S.lock (S.keys seal.now) (packet_of (setting_of D.step (S.keys seal.now)) client draw.old (numbered false filled.body client)) result }
+            → IsSealed S.lock (S.keys seal.now) (packet_of (setting_of D.step (S.keys seal.now)) client draw.old (numbered false (body_in filled) client)) result }
         ensures drawn { (client : Client) → Stands self.old client
-            → draw.new ≡ draw_after_packet (setting_of D.step (S.keys seal.now)) draw.old (numbered false filled.body client) }
+            → draw.new ≡ draw_after_packet (setting_of D.step (S.keys seal.now)) draw.old (numbered false (body_in filled) client) }
         ensures learnt { self.new.rest.learnt ≡ self.old.rest.learnt }
     {
         let Filled {
             count: _,
             number: _,
             seq: _,
-            body,
+            text,
             inner,
         } = filled;
         let at = self.time();
-        let message = outer_message(&mut self.numbers, at, body);
-        self.calls.remember(message.number, inner);
-        self.sealed(seal, packet, message, draw)
+        let (number, seq) = given(&mut self.numbers, at, false);
+        self.calls.remember(number, inner);
+        self.sealed_in_place(seal, text, number, seq, draw)
     }
 
     /// Sends what a packet was filled with: a single message as it is, more in a container.
-    fn send_filled<S: Seal, D: Draw>(
-        &mut self,
-        filled: Filled,
-        packet: Buffer,
-        seal: &S,
-        draw: &mut D,
-    ) -> Octets
+    fn send_filled<S: Seal, D: Draw>(&mut self, filled: Filled, seal: &S, draw: &mut D) -> Octets
         requires key { IsSome (entry_of self.old.rest.key (S.keys seal.now)) }
-        requires words { length filled.body % 4 ≡ 0 }
-        requires short { length filled.body ≤ bytes_max }
-        requires empty { packet.bytes ≡ [] }
-        requires room { sealed_size (length filled.body) ≤ packet.room }
+        requires can_be_sealed { CanBeSealed filled }
         requires numbers { 0 < room self.old.rest.counters }
         ensures sent { (filling : Filling D) → Stands self.old filling.client → IsPacked filled filling → filling.draw ≡ draw.old → has_any filling.messages ≡ true
             → Sent S.lock (S.keys seal.now) (sends (setting_of D.step (S.keys seal.now)) filling.messages filling) result self.new draw.new }
@@ -172,9 +144,9 @@ impl Core {
     {
         let count = filled.count;
         if count == 1 {
-            self.send_lone(filled, packet, seal, draw)
+            self.send_lone(filled, seal, draw)
         } else {
-            self.send_container(filled, packet, seal, draw)
+            self.send_container(filled, seal, draw)
         }
     }
 
@@ -182,14 +154,11 @@ impl Core {
     pub(crate) fn send_draft<S: Seal, D: Draw>(
         &mut self,
         draft: Draft,
-        body: Buffer,
         packet: Buffer,
         seal: &S,
         draw: &mut D,
     ) -> Octets
         requires key { IsSome (entry_of self.old.rest.key (S.keys seal.now)) }
-        requires no_body { body.bytes ≡ [] }
-        requires body_room { container_head + length draft.rows ≤ body.room }
         requires empty { packet.bytes ≡ [] }
         requires room { sealed_size (container_head + length draft.rows) ≤ packet.room }
         requires numbers { HasNumbers self.old draft }
@@ -197,17 +166,7 @@ impl Core {
             → Sent S.lock (S.keys seal.now) (sends (setting_of D.step (S.keys seal.now)) filling.messages filling) result self.new draw.new }
         ensures learnt { self.new.rest.learnt ≡ self.old.rest.learnt }
     {
-        let filled = draft.finish(body);
-        self.send_filled(filled, packet, seal, draw)
+        let filled = draft.finish(packet);
+        self.send_filled(filled, seal, draw)
     }
-}
-
-/// The message of a container, under the next number.
-fn outer_message(numbers: &mut Numbers, at: Moment, body: Octets) -> Message
-    requires room { 0 < room numbers.old }
-    ensures message { result ≡ record { number = next_number numbers.old.last at; seq = seq_of numbers.old.content_messages false; body = body } }
-    ensures counted { numbers.new ≡ after_next numbers.old at false }
-{
-    let (number, seq) = numbers.next(at, false).unwrap();
-    Message { number, seq, body }
 }

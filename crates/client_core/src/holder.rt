@@ -24,11 +24,12 @@ pub enum Holder {
 
 impl Holder {
     /// What the three states share; that it ended isn't kept there.
-    fn core(&self) -> &Core
+    pub(crate) fn core(&self) -> &Core
         ensures key { result.now.rest.key ≡ (kept_of self.now).rest.key }
         ensures session { result.now.rest.session ≡ (kept_of self.now).rest.session }
         ensures former { result.now.rest.former ≡ (kept_of self.now).rest.former }
         ensures moment { result.now.rest.now ≡ (kept_of self.now).rest.now }
+        ensures temporary { result.now.rest.temporary ≡ (kept_of self.now).rest.temporary }
     {
         match self {
             Holder::Opening(client) => &client.core,
@@ -81,6 +82,7 @@ impl Holder {
 
     /// Whether it is open: it has learnt of its present session, and hasn't ended.
     pub fn is_open(&self) -> bool
+        ensures kept { result ≡ is_open_now (kept_of self.now).rest }
         ensures open { (client : Client) → Stands (kept_of self.now) client → result ≡ is_open_now client }
         ensures state { IsInState self.now }
     {

@@ -98,6 +98,7 @@ impl Core {
         ensures counters { self.new.rest.counters ≡ self.old.rest.counters }
         ensures waiting { self.new.rest.waiting ≡ self.old.rest.waiting }
         ensures calls { self.new.calls ≡ self.old.calls }
+        ensures kept { record self.new { rest = record self.new.rest { now = self.old.rest.now } } ≡ self.old }
     {
         self.moment = self.moment.max(now);
     }

@@ -10,7 +10,7 @@ use std::marker::Model;
 
 /// A list of numbers that takes one more in room that was taken before. Contracts see the numbers, and for how many more
 /// there is room.
-#[derive(Debug, Drop)]
+#[derive(Drop)]
 pub(crate) struct NumberList {
     numbers: Vec<u64>,
     room: usize,

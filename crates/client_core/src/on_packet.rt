@@ -23,11 +23,11 @@ use octets::Memory;
 use std::alloc::Global;
 
 /// A client that has learnt a unique number is open.
-fn opened_or_still(core: Core) -> OpeningStep
-    requires { StandsForOne core }
-    ensures taken { (before after : Client) → Stands core after → TookOpening result before after }
-    ensures done { (call : CallNo) (answer : List ℕ) → state_in call core.calls.rows ≡ Some (Done answer) → HasDoneOpening call answer result }
-    ensures left { opening_left result ≡ core }
+fn opened_or_still(core: Box<Core>) -> OpeningStep
+    requires { StandsForOne core.value }
+    ensures taken { (before after : Client) → Stands core.value after → TookOpening result before after }
+    ensures done { (call : CallNo) (answer : List ℕ) → state_in call core.value.calls.rows ≡ Some (Done answer) → HasDoneOpening call answer result }
+    ensures left { opening_left result ≡ core.value }
     ensures not_memory { IsDoneOpening result }
 {
     if core.is_open() {
@@ -38,14 +38,14 @@ fn opened_or_still(core: Core) -> OpeningStep
 }
 
 /// An open client that received a packet, and may have ended by it.
-fn open_or_ended(core: Core, ended: bool) -> OpenStep
-    requires open { is_open core.rest ≡ true }
-    requires stands { ended ≡ false → StandsForOne core }
-    ensures taken { (before after : Client) → TookBy (Ok ended) core before after → TookOpen result before after }
-    ensures done { (call : CallNo) (answer : List ℕ) → state_in call core.calls.rows ≡ Some (Done answer) → HasDone call answer result }
-    ensures keys { keys_in (open_left result) ≡ keys_in core }
-    ensures session { (open_left result).rest.session ≡ core.rest.session }
-    ensures count { length (open_left result).calls.rows ≡ length core.calls.rows }
+fn open_or_ended(core: Box<Core>, ended: bool) -> OpenStep
+    requires open { is_open core.value.rest ≡ true }
+    requires stands { ended ≡ false → StandsForOne core.value }
+    ensures taken { (before after : Client) → TookBy (Ok ended) core.value before after → TookOpen result before after }
+    ensures done { (call : CallNo) (answer : List ℕ) → state_in call core.value.calls.rows ≡ Some (Done answer) → HasDone call answer result }
+    ensures keys { keys_in (open_left result) ≡ keys_in core.value }
+    ensures session { (open_left result).rest.session ≡ core.value.rest.session }
+    ensures count { length (open_left result).calls.rows ≡ length core.value.calls.rows }
     ensures not_memory { IsDoneOpen result }
 {
     if ended {

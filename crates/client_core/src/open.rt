@@ -13,7 +13,7 @@ use std::marker::Model;
 /// stands for.
 #[derive(Debug, Drop)]
 pub struct OpenClient {
-    pub(crate) core: Core,
+    pub(crate) core: Box<Core>,
 }
 
 impl Model for OpenClient {
@@ -24,9 +24,9 @@ impl Model for OpenClient {
 
     ghost Value = { Contents };
 
-    ghost view = { λ client. client.core };
+    ghost view = { λ client. client.core.value };
 
-    ghost invariant = { λ client. (is_open client.core.rest ≡ true) × StandsForOne client.core };
+    ghost invariant = { λ client. (is_open client.core.value.rest ≡ true) × StandsForOne client.core.value };
 }
 
 impl OpenClient {

@@ -16,7 +16,7 @@ use std::marker::Model;
 /// stands for.
 #[derive(Debug, Drop)]
 pub struct OpeningClient {
-    pub(crate) core: Core,
+    pub(crate) core: Box<Core>,
 }
 
 impl Model for OpeningClient {
@@ -26,9 +26,9 @@ impl Model for OpeningClient {
 
     ghost Value = { Contents };
 
-    ghost view = { λ client. client.core };
+    ghost view = { λ client. client.core.value };
 
-    ghost invariant = { λ client. (client.core.rest.learnt ≡ []) × StandsForOne client.core };
+    ghost invariant = { λ client. (client.core.value.rest.learnt ≡ []) × StandsForOne client.core.value };
 }
 
 impl OpeningClient {

@@ -1,16 +1,17 @@
-//! For how many bytes of messages a flush takes room: for what waits, and no more than a packet may have.
+//! For how many bytes of messages and how many numbers a flush takes room: for what waits and may go, and no more than a
+//! packet may have.
 
-ghost use Rattle.std.specs.Prelude.{◌≡◌, ◌||◌, ◌≤◌, ◌<◌, ◌+◌, ◌-◌, ◌^◌, option_map, slice_get};
-ghost use Rattle.containers.specs.Container.{bytes_max, container_head};
-ghost use Rattle.call_table.specs.declared.call.Group.TheVariants.{Queued as QueuedGroup};
-ghost use Rattle.call_table.specs.Kept.{is_row_in};
-ghost use Rattle.call_table.specs.Table.{places_from};
+ghost use Rattle.std.specs.Prelude.{◌≡◌, ◌≤◌, ◌<◌, ◌+◌, ◌-◌, ◌^◌, Some, min, option_map};
+ghost use Rattle.containers.specs.Container.{bytes_max, container_head, messages_max};
+ghost use Rattle.call_table.specs.Table.{IsGiven};
 ghost use Rattle.client_core.specs.Kept.{temporary_in};
-ghost use Rattle.client_core.specs.Owed.{asked_count, bytes_at, drops_bytes, follows_at, front_of, holds_back, more_behind, owed_bytes, told_bytes, waiting_bytes, wrap_most};
+ghost use Rattle.client_core.specs.Owed.{asked_count, bytes_at, calls_most, drops_bytes, follows_at, front_bytes, front_of, has_unbound, holds_back, more_behind, needs_binding, owed_bytes, owed_numbers, told_bytes, waiting_bytes};
 
-use crate::asking::BODY_BYTES;
+use crate::asking::{BODY_BYTES, bytes_if};
 use crate::binding::{Binding, Temporary};
+use crate::calling::wrap_size;
 use crate::core_client::Core;
+use crate::rebinding::need_of;
 use call_table::{CallNo, Group};
 use containers::laws::container_sizes;
 use containers::{
@@ -26,9 +27,6 @@ const ONE_BYTES: usize = MESSAGE_HEAD_BYTES + 12;
 
 /// The bytes of a request for salts.
 const SALTS_BYTES: usize = MESSAGE_HEAD_BYTES + 8;
-
-/// The most bytes in front of the body of a call that is to execute after another.
-const WRAP_BYTES: usize = 12;
 
 /// The most bytes of the messages of a packet.
 const BYTES_MAX: usize = CONTAINER_BYTES_MAX - CONTAINER_HEAD_BYTES;
@@ -73,55 +71,47 @@ impl Core {
         ONE_BYTES * self.calls.members(Group::Dropping)
     }
 
-    /// The bytes of the queued call that has so many before it, and 0 where there is none.
-    fn queued_at(&self, k: usize) -> usize
-        ensures bytes { result ≡ bytes_at self.now.calls.rows (slice_get (places_from (is_row_in QueuedGroup) 0 self.now.calls.rows) k) }
+    /// Whether a binding is to be asked for.
+    pub(crate) fn needs_binding(&self) -> bool
+        ensures { result ≡ needs_binding self.now.rest }
+    {
+        self.is_open() && need_of(&self.temporary).is_some()
+    }
+
+    /// The bytes of a call that is queued, at most.
+    fn call_bytes(&self, call: CallNo) -> usize
+        requires given { IsGiven call self.now.calls.rows }
+        ensures bytes { result ≡ bytes_at self.now.calls.rows (Some (call.n - 1)) }
         ensures few { result ≤ 2 ^ 63 + 28 }
     {
-        match self.calls.member(Group::Queued, k) {
-            None => 0,
-            Some(call) => {
-                let wrap = wrap_most(self.calls.after(call));
-                MESSAGE_HEAD_BYTES + wrap + self.calls.body(call).len()
-            }
-        }
+        MESSAGE_HEAD_BYTES + wrap_size(self.calls.after(call)) + self.calls.body(call).len()
     }
 
-    /// Whether the queued call that has so many before it is to execute after another.
-    fn follows_at(&self, k: usize) -> bool
-        ensures { result ≡ follows_at self.now.calls.rows (slice_get (places_from (is_row_in QueuedGroup) 0 self.now.calls.rows) k) }
+    /// Whether a call is to execute after another.
+    fn follows(&self, call: CallNo) -> bool
+        requires given { IsGiven call self.now.calls.rows }
+        ensures { result ≡ follows_at self.now.calls.rows (Some (call.n - 1)) }
     {
-        match self.calls.member(Group::Queued, k) {
-            None => false,
-            Some(call) => self.calls.after(call).is_some(),
-        }
-    }
-
-    /// Whether the queued call that has so many before it may wait when its turn comes.
-    fn may_wait(&self, k: usize) -> bool
-        ensures { result ≡ (holds_back self.now.rest.temporary || follows_at self.now.calls.rows (slice_get (places_from (is_row_in QueuedGroup) 0 self.now.calls.rows) k)) }
-    {
-        if holds_back(&self.temporary) {
-            return true;
-        }
-        self.follows_at(k)
+        self.calls.after(call).is_some()
     }
 
     /// The bytes of the queued calls up to the last one that may go in a packet, or those of a packet where they have as many
-    /// or more. A call that is to execute after no other goes when its turn comes, where the binding holds none back.
-    fn queued_bytes(&self) -> usize
-        ensures bytes { result < bytes_max → front_of self.now ≤ result }
-        ensures few { result ≤ bytes_max }
+    /// or more. A call that is to execute after no other goes when its turn comes, where none is held back.
+    fn front_bytes(&self) -> usize
+        ensures { result ≡ min (front_bytes messages_max self.now.calls.rows) bytes_max }
     {
         container_sizes();
         let mut left = CONTAINER_MESSAGES_MAX;
         let mut bytes = 0;
         for k in 0..self.calls.members(Group::Queued) {
-            bytes += self.queued_at(k);
+            let Some(call) = self.calls.member(Group::Queued, k) else {
+                return bytes;
+            };
+            bytes += self.call_bytes(call);
             if bytes >= CONTAINER_BYTES_MAX {
                 return CONTAINER_BYTES_MAX;
             }
-            left = left_behind(self.may_wait(k), left);
+            left = left_behind(self.follows(call), left);
             if left == 0 {
                 return bytes;
             }
@@ -129,20 +119,58 @@ impl Core {
         bytes
     }
 
-    /// For how many bytes of messages a packet of what waits needs room.
-    pub(crate) fn owed_bytes(&self) -> usize
-        ensures enough { container_head + result < bytes_max → owed_bytes self.now ≤ result }
-        ensures few { container_head + result ≤ bytes_max }
+    /// Whether the binding of an open client's temporary key holds all calls back.
+    fn holds_back(&self) -> bool
+        ensures { result ≡ holds_back self.now.rest }
+    {
+        self.is_open() && has_unbound(&self.temporary)
+    }
+
+    /// The bytes of the queued calls that may go in a packet, or those of a packet where they have as many or more.
+    fn queued_bytes(&self) -> usize
+        ensures { result ≡ min (front_of self.now) bytes_max }
+    {
+        if self.holds_back() {
+            return 0;
+        }
+        self.front_bytes()
+    }
+
+    /// How many queued calls may go in a packet.
+    pub(crate) fn calls_most(&self) -> usize
+        ensures count { result ≡ calls_most self.now }
+        ensures few { result ≤ messages_max }
     {
         container_sizes();
-        let bytes = self.waiting_bytes() + MESSAGE_HEAD_BYTES + BODY_BYTES + self.drops_bytes();
+        if self.holds_back() {
+            return 0;
+        }
+        self.calls
+            .members(Group::Queued)
+            .min(CONTAINER_MESSAGES_MAX)
+    }
+
+    /// How many numbers of calls and of a binding may be in a packet of what waits.
+    pub(crate) fn owed_numbers(&self) -> usize
+        ensures { result ≡ owed_numbers self.now }
+    {
+        bytes_if(self.needs_binding(), 1) + self.calls_most()
+    }
+
+    /// For how many bytes of messages a packet of what waits needs room.
+    pub(crate) fn owed_bytes(&self) -> usize
+        ensures { result ≡ min (owed_bytes self.now) (bytes_max - container_head) }
+    {
+        container_sizes();
+        let binding = bytes_if(self.needs_binding(), MESSAGE_HEAD_BYTES + BODY_BYTES);
+        let bytes = self.waiting_bytes() + binding + self.drops_bytes();
         (bytes + self.queued_bytes()).min(BYTES_MAX)
     }
 }
 
-/// Whether the binding of a temporary key may hold calls back.
-fn holds_back(temporary: &Option<Temporary>) -> bool
-    ensures { result ≡ holds_back (option_map temporary_in temporary.now) }
+/// Whether the binding of a temporary key doesn't hold.
+fn has_unbound(temporary: &Option<Temporary>) -> bool
+    ensures { result ≡ has_unbound (option_map temporary_in temporary.now) }
 {
     match temporary {
         None => false,
@@ -150,16 +178,6 @@ fn holds_back(temporary: &Option<Temporary>) -> bool
             Binding::Bound => false,
             _ => true,
         },
-    }
-}
-
-/// How many bytes stand in front of the body of a call, at most, where it is to execute after this one.
-fn wrap_most(after: Option<CallNo>) -> usize
-    ensures { result ≡ wrap_most after }
-{
-    match after {
-        None => 0,
-        Some(_) => WRAP_BYTES,
     }
 }
 

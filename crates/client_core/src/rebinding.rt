@@ -30,7 +30,7 @@ pub(crate) fn has_asked(temporary: &Option<Temporary>, number: u64) -> bool
 
 /// What is to be said of a temporary key whose binding is needed: the permanent key, and the first moment at which the
 /// binding doesn't hold any more, in seconds of Unix time.
-#[derive(Clone, Copy, Debug)]
+#[derive(Clone, Copy)]
 pub(crate) struct Needed {
     pub(crate) perm: u64,
     pub(crate) expires: u32,

@@ -1,6 +1,6 @@
 //! What waits beside the calls goes into a packet.
 
-ghost use Rattle.std.specs.Prelude.{◌≡◌, ◌<◌, ◌≤◌, ◌+◌, ◌++◌, ◌∷◌, ℕ, Bool, List, [], drop, fold, option_map, slice_get, length, min, take, vec_len, vec_capacity, IfSome, IsSome, IsTrue, IsFalse, false, true, None, Some};
+ghost use Rattle.std.specs.Prelude.{◌≡◌, ◌<◌, ◌≤◌, ◌+◌, ◌++◌, ◌∷◌, ℕ, List, [], drop, fold, option_map, slice_get, length, min, take, vec_len, vec_capacity, IfSome, IsSome, IsTrue, IsFalse, false, true, None, Some};
 ghost use Rattle.msg_ids.specs.Counters.{after_next, next_number, room, seq_of};
 ghost use Rattle.call_table.specs.Kept.{numbers_in, state_in};
 ghost use Rattle.call_table.specs.Table.{IsGiven, Sent};
@@ -13,7 +13,7 @@ ghost use Rattle.draws.specs.Draws.{draw_after};
 ghost use Rattle.client_rules.specs.Filling.{Filling, changes, says, says_acks, says_binding, says_destroyed, says_drop, says_ping, says_resent, says_salts, says_states, says_told, numbers_max};
 ghost use Rattle.containers.specs.Container.{message_head};
 ghost use Rattle.client_core.specs.Draft.{CanBeSaid, DropsSoFar, Goes, HasNumbers, HasRoomFor, Holds, TakesUp, drops, enters, item_of, needs_answer, said_bytes};
-ghost use Rattle.client_core.specs.Owed.{asked_count, binding_bytes, drops_bytes, front_bytes, holds_back, list_bytes, one_bytes, salts_bytes, told_bytes};
+ghost use Rattle.client_core.specs.Owed.{SameQueue, asked_count, binding_bytes, binding_most, binding_numbers, drops_bytes, holds_back, list_bytes, needs_binding, one_bytes, salts_bytes, told_bytes};
 ghost use Rattle.client_core.specs.Asked.{HasRoom, asked_message, bind_body_bytes};
 ghost use Rattle.client_core.specs.Flushed.{setting_of};
 ghost use Rattle.client_core.specs.Kept.{Stands, asked_in, waiting_in};
@@ -63,7 +63,7 @@ impl Core {
         ensures size { length (spelling_of (item_of said.now)) ≡ said_bytes said.now }
         ensures number { IsTrue result → draft.new.number ≡ self.new.rest.counters.last }
         ensures numbers { HasNumbers self.new draft.new }
-        ensures takes { TakesUp (message_head + said_bytes said.now) draft.old draft.new }
+        ensures takes { TakesUp (message_head + said_bytes said.now) 0 draft.old draft.new }
         ensures rest { record self.new.rest { counters = self.old.rest.counters } ≡ self.old.rest }
         ensures calls { self.new.calls ≡ self.old.calls }
     {
@@ -78,7 +78,7 @@ impl Core {
         requires bytes { HasRoomFor one_bytes draft.old }
         ensures goes { (filling : Filling D) → Goes self.old draft.old filling → Goes self.new draft.new (says_ping filling.client.waiting.ping filling) }
         ensures numbers { HasNumbers self.new draft.new }
-        ensures takes { TakesUp one_bytes draft.old draft.new }
+        ensures takes { TakesUp one_bytes 0 draft.old draft.new }
         ensures waiting { record self.new.rest.waiting { ping = None } ≡ record self.old.rest.waiting { ping = None } }
         ensures rest { record self.new.rest { counters = self.old.rest.counters; waiting = self.old.rest.waiting } ≡ self.old.rest }
         ensures calls { self.new.calls ≡ self.old.calls }
@@ -97,7 +97,7 @@ impl Core {
         requires bytes { HasRoomFor salts_bytes draft.old }
         ensures goes { (filling : Filling D) → Goes self.old draft.old filling → Goes self.new draft.new (says_salts filling.client.waiting.salts filling) }
         ensures numbers { HasNumbers self.new draft.new }
-        ensures takes { TakesUp salts_bytes draft.old draft.new }
+        ensures takes { TakesUp salts_bytes 0 draft.old draft.new }
         ensures waiting { record self.new.rest.waiting { salts = None } ≡ record self.old.rest.waiting { salts = None } }
         ensures rest { record self.new.rest { counters = self.old.rest.counters; waiting = self.old.rest.waiting } ≡ self.old.rest }
         ensures calls { self.new.calls ≡ self.old.calls }
@@ -116,7 +116,7 @@ impl Core {
         requires bytes { HasRoomFor one_bytes draft.old }
         ensures goes { (filling : Filling D) → Goes self.old draft.old filling → Goes self.new draft.new (says_destroyed filling.client.waiting.destroyed filling) }
         ensures numbers { HasNumbers self.new draft.new }
-        ensures takes { TakesUp one_bytes draft.old draft.new }
+        ensures takes { TakesUp one_bytes 0 draft.old draft.new }
         ensures waiting { record self.new.rest.waiting { destroyed = None } ≡ record self.old.rest.waiting { destroyed = None } }
         ensures rest { record self.new.rest { counters = self.old.rest.counters; waiting = self.old.rest.waiting } ≡ self.old.rest }
         ensures calls { self.new.calls ≡ self.old.calls }
@@ -138,7 +138,7 @@ impl Core {
         requires bytes { HasRoomFor (told_bytes self.old.rest.waiting.told) draft.old }
         ensures goes { (filling : Filling D) → Goes self.old draft.old filling → Goes self.new draft.new (says_told filling.client.waiting.told filling) }
         ensures numbers { HasNumbers self.new draft.new }
-        ensures takes { TakesUp (told_bytes self.old.rest.waiting.told) draft.old draft.new }
+        ensures takes { TakesUp (told_bytes self.old.rest.waiting.told) 0 draft.old draft.new }
         ensures waiting { record self.new.rest.waiting { told = None } ≡ record self.old.rest.waiting { told = None } }
         ensures rest { record self.new.rest { counters = self.old.rest.counters; waiting = self.old.rest.waiting } ≡ self.old.rest }
         ensures calls { self.new.calls ≡ self.old.calls }
@@ -162,7 +162,7 @@ impl Core {
         requires bytes { HasRoomFor (list_bytes (length self.old.rest.waiting.resent)) draft.old }
         ensures goes { (filling : Filling D) → Goes self.old draft.old filling → Goes self.new draft.new (says_resent filling.client.waiting.resent filling) }
         ensures numbers { HasNumbers self.new draft.new }
-        ensures takes { TakesUp (list_bytes (length self.old.rest.waiting.resent)) draft.old draft.new }
+        ensures takes { TakesUp (list_bytes (length self.old.rest.waiting.resent)) 0 draft.old draft.new }
         ensures waiting { record self.new.rest.waiting { resent = [] } ≡ record self.old.rest.waiting { resent = [] } }
         ensures rest { record self.new.rest { counters = self.old.rest.counters; waiting = self.old.rest.waiting } ≡ self.old.rest }
         ensures calls { self.new.calls ≡ self.old.calls }
@@ -186,7 +186,7 @@ impl Core {
         requires room { length self.old.calls.acks ≤ vec_capacity list }
         ensures goes { (filling : Filling D) → Goes self.old draft.old filling → Goes self.new draft.new (says_acks filling.client.table.acks filling) }
         ensures numbers { HasNumbers self.new draft.new }
-        ensures takes { TakesUp (list_bytes (length self.old.calls.acks)) draft.old draft.new }
+        ensures takes { TakesUp (list_bytes (length self.old.calls.acks)) 0 draft.old draft.new }
         ensures rest { record self.new.rest { counters = self.old.rest.counters } ≡ self.old.rest }
         ensures rows { self.new.calls.rows ≡ self.old.calls.rows }
         ensures room { self.new.calls.room ≡ self.old.calls.room }
@@ -209,7 +209,7 @@ impl Core {
         requires room { asked_count self.old.rest.waiting.states self.old.calls.rows ≤ vec_capacity list }
         ensures goes { (filling : Filling D) → Goes self.old draft.old filling → Goes self.new draft.new (says_states filling.client.waiting.states filling) }
         ensures numbers { HasNumbers self.new draft.new }
-        ensures takes { TakesUp (list_bytes (asked_count self.old.rest.waiting.states self.old.calls.rows)) draft.old draft.new }
+        ensures takes { TakesUp (list_bytes (asked_count self.old.rest.waiting.states self.old.calls.rows)) 0 draft.old draft.new }
         ensures waiting { record self.new.rest.waiting { states = false } ≡ record self.old.rest.waiting { states = false } }
         ensures rest { record self.new.rest { counters = self.old.rest.counters; waiting = self.old.rest.waiting; asked = self.old.rest.asked } ≡ self.old.rest }
         ensures calls { self.new.calls ≡ self.old.calls }
@@ -233,30 +233,35 @@ impl Core {
         draw: &mut D,
     )
         requires numbers { HasNumbers self.old draft.old }
-        requires bytes { HasRoomFor binding_bytes draft.old }
-        requires room { HasRoom room }
+        requires bytes { HasRoomFor (binding_most self.old.rest) draft.old }
+        requires place { binding_numbers self.old.rest ≤ draft.old.numbers }
+        requires room { needs_binding self.old.rest ≡ true → HasRoom room }
         requires perm { IfSome self.old.rest.temporary (λ temporary. IsSome (entry_of temporary.perm (S.keys seal.now))) }
         ensures goes { (filling : Filling D) → Goes self.old draft.old filling → filling.draw ≡ draw.old
             → Goes self.new draft.new (says_binding (setting_of D.step (S.keys seal.now)) filling.client.temporary filling) }
         ensures drawn { (filling : Filling D) → Goes self.old draft.old filling → filling.draw ≡ draw.old
             → (says_binding (setting_of D.step (S.keys seal.now)) filling.client.temporary filling).draw ≡ draw.new }
         ensures numbers { HasNumbers self.new draft.new }
-        ensures takes { TakesUp binding_bytes draft.old draft.new }
-        ensures held { holds_back self.new.rest.temporary ≡ true → holds_back self.old.rest.temporary ≡ true }
+        ensures takes { TakesUp (binding_most self.old.rest) (binding_numbers self.old.rest) draft.old draft.new }
+        ensures held { holds_back self.old.rest ≡ true → holds_back self.new.rest ≡ true }
         ensures rest { record self.new.rest { counters = self.old.rest.counters; temporary = self.old.rest.temporary } ≡ self.old.rest }
         ensures calls { self.new.calls ≡ self.old.calls }
     {
         sizes_of_bindings::<D>();
         let Some(needed) = need_of(&self.temporary) else {
+            drop(room);
             return;
         };
         let Some(key) = seal.ring().find(needed.perm) else {
+            drop(room);
             return;
         };
         if !self.is_open() {
+            drop(room);
             return;
         }
         if !draft.takes(BODY_BYTES) {
+            drop(room);
             return;
         }
         let at = self.time();
@@ -275,6 +280,7 @@ impl Core {
     )
         requires numbers { HasNumbers self.old draft.old }
         requires bytes { HasRoomFor binding_bytes draft.old }
+        requires place { 0 < draft.old.numbers }
         requires room { HasRoom room }
         requires fits { enters bind_body_bytes draft.old ≡ true }
         ensures holds { (messages : List Message) → Holds draft.old messages
@@ -284,7 +290,7 @@ impl Core {
         ensures asked { self.new.rest ≡ with_binding (rules.Asked (asked_message D.step key.now at self.old.rest needed draw.old)) (record self.old.rest { counters = after_next self.old.rest.counters at true }) }
         ensures drawn { draw.new ≡ draw_after D.step 4 draw.old }
         ensures numbers { HasNumbers self.new draft.new }
-        ensures takes { TakesUp binding_bytes draft.old draft.new }
+        ensures takes { TakesUp binding_bytes 1 draft.old draft.new }
         ensures calls { self.new.calls ≡ self.old.calls }
     {
         let (number, seq) = given(&mut self.numbers, at, true);
@@ -311,8 +317,8 @@ impl Core {
         ensures full { IsFalse result → draft.new.is_full ≡ true }
         ensures room { self.new.calls.room ≡ self.old.calls.room }
         ensures numbers { HasNumbers self.new draft.new }
-        ensures takes { TakesUp one_bytes draft.old draft.new }
-        ensures queued { (held : Bool) (most : ℕ) → front_bytes held most self.new.calls.rows ≡ front_bytes held most self.old.calls.rows }
+        ensures takes { TakesUp one_bytes 0 draft.old draft.new }
+        ensures queued { SameQueue self.old.calls.rows self.new.calls.rows }
         ensures rest { record self.new.rest { counters = self.old.rest.counters } ≡ self.old.rest }
     {
         let Some(living) = self.calls.living(call) else {
@@ -340,8 +346,8 @@ impl Core {
         requires bytes { HasRoomFor one_bytes draft.old }
         ensures so_far { (first : Filling D) (k count : ℕ) → k < count → DropsSoFar first self.old draft.old k count → DropsSoFar first self.new draft.new (k + 1) count }
         ensures numbers { HasNumbers self.new draft.new }
-        ensures takes { TakesUp one_bytes draft.old draft.new }
-        ensures queued { (held : Bool) (most : ℕ) → front_bytes held most self.new.calls.rows ≡ front_bytes held most self.old.calls.rows }
+        ensures takes { TakesUp one_bytes 0 draft.old draft.new }
+        ensures queued { SameQueue self.old.calls.rows self.new.calls.rows }
         ensures rest { record self.new.rest { counters = self.old.rest.counters } ≡ self.old.rest }
         ensures room { self.new.calls.room ≡ self.old.calls.room }
     {
@@ -356,8 +362,8 @@ impl Core {
         requires bytes { HasRoomFor (drops_bytes self.old.calls.rows) draft.old }
         ensures goes { (filling : Filling D) → Goes self.old draft.old filling → Goes self.new draft.new (fold says_drop filling (drops filling)) }
         ensures numbers { HasNumbers self.new draft.new }
-        ensures takes { TakesUp (drops_bytes self.old.calls.rows) draft.old draft.new }
-        ensures queued { (held : Bool) (most : ℕ) → front_bytes held most self.new.calls.rows ≡ front_bytes held most self.old.calls.rows }
+        ensures takes { TakesUp (drops_bytes self.old.calls.rows) 0 draft.old draft.new }
+        ensures queued { SameQueue self.old.calls.rows self.new.calls.rows }
         ensures rest { record self.new.rest { counters = self.old.rest.counters } ≡ self.old.rest }
         ensures room { self.new.calls.room ≡ self.old.calls.room }
     {

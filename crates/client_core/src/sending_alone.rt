@@ -105,8 +105,7 @@ impl Core {
         ensures rest { self.new.rest ≡ self.old.rest }
         ensures rows { self.new.calls.rows ≡ self.old.calls.rows }
     {
-        let lone = Lone::new(alloc, message)?;
         self.calls.reserve(alloc, 1)?;
-        Ok(lone)
+        Lone::new(alloc, message)
     }
 }

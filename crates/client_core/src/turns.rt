@@ -3,7 +3,6 @@
 ghost use Rattle.std.specs.Prelude.{◌≡◌, ◌≤◌, ◌<◌, ◌+◌, ◌-◌, ◌^◌, ℕ, fold, length, true, false, IfSome, IsTrue, IsFalse, None, Option, Some, option_map};
 ghost use Rattle.call_table.specs.Kept.{Stands as StandsFor, state_in};
 ghost use Rattle.call_table.specs.Table.{IsGiven, Queued, Table, at};
-ghost use Rattle.containers.specs.Container.{messages_max};
 ghost use Rattle.client_rules.specs.Client.{Client, calls_of};
 ghost use Rattle.client_rules.specs.Filling.{Filling, Goes as Going, says_call, takes_turn, turn_after, turn_behind, turn_of, turn_under};
 ghost use Rattle.client_core.specs.Calling.{turn_in};
@@ -85,7 +84,8 @@ impl Core {
         requires given { IsGiven call self.now.calls.rows }
         ensures told { (client : Client) → Stands self.now client → IfSome (at call (calls_of client)) (λ one. turn_in result ≡ turn_of client one) }
         ensures wrap { (wrap : Option ℕ) → turn_in result ≡ Going wrap → GoesWith wrap call self.now.calls.rows }
-        ensures first { holds_back self.now.rest.temporary ≡ false → follows_at self.now.calls.rows (Some (call.n - 1)) ≡ false → turn_in result ≡ Going None }
+        ensures held { (wrap : Option ℕ) → turn_in result ≡ Going wrap → holds_back self.now.rest ≡ false }
+        ensures first { holds_back self.now.rest ≡ false → follows_at self.now.calls.rows (Some (call.n - 1)) ≡ false → turn_in result ≡ Going None }
     {
         let turn = turn_after(&self.calls, self.calls.after(call));
         if !self.is_open() {
@@ -103,8 +103,7 @@ impl Core {
         requires queued { state_in call self.old.calls.rows ≡ Some Queued }
         requires wrap { GoesWith wrap call self.old.calls.rows }
         requires numbers { HasNumbers self.old draft.old }
-        requires bytes { HasRoomOf call self.old.calls.rows draft.old }
-        requires reserved { messages_max ≤ draft.old.count + self.old.calls.room }
+        requires bytes { HasRoomOf self.old call draft.old }
         ensures goes { (filling : Filling D) → Goes self.old draft.old filling
             → IfSome (at call (calls_of filling.client)) (λ one. Goes self.new draft.new (takes_turn call one.body (Going wrap) filling)) }
         ensures left { IsTrue result → (filling : Filling D) → Goes self.old draft.old filling
@@ -113,7 +112,6 @@ impl Core {
         ensures numbers { HasNumbers self.new draft.new }
         ensures bytes_left { IsTrue result → (place : ℕ) → IsQueuedAt place call self.old.calls.rows → HasRoomFrom self.old place draft.old → HasRoomFrom self.new place draft.new }
         ensures same_room { length draft.new.rows + draft.new.room ≡ length draft.old.rows + draft.old.room }
-        ensures reserved { messages_max ≤ draft.new.count + self.new.calls.room }
         ensures rest { record self.new.rest { counters = self.old.rest.counters } ≡ self.old.rest }
     {
         let at = self.time();
@@ -132,8 +130,7 @@ impl Core {
         requires given { IsGiven call self.old.calls.rows }
         requires queued { state_in call self.old.calls.rows ≡ Some Queued }
         requires numbers { HasNumbers self.old draft.old }
-        requires bytes { HasRoomOf call self.old.calls.rows draft.old }
-        requires reserved { messages_max ≤ draft.old.count + self.old.calls.room }
+        requires bytes { holds_back self.old.rest ≡ false → HasRoomOf self.old call draft.old }
         requires room { draft.old.is_full ≡ false }
         ensures goes { (filling : Filling D) → Goes self.old draft.old filling → Goes self.new draft.new (says_call filling call) }
         ensures left { IsTrue result → (filling : Filling D) → Goes self.old draft.old filling → LeavesQueue call filling (says_call filling call) }
@@ -142,7 +139,6 @@ impl Core {
         ensures bytes_left { IsTrue result → (place : ℕ) → IsQueuedAt place call self.old.calls.rows → HasRoomFrom self.old place draft.old → HasRoomFrom self.new place draft.new }
         ensures bytes_behind { IsFalse result → (place : ℕ) → IsQueuedAt place call self.old.calls.rows → HasRoomFrom self.old place draft.old → HasRoomFrom self.new (place + 1) draft.new }
         ensures same_room { length draft.new.rows + draft.new.room ≡ length draft.old.rows + draft.old.room }
-        ensures reserved { messages_max ≤ draft.new.count + self.new.calls.room }
         ensures rest { record self.new.rest { counters = self.old.rest.counters } ≡ self.old.rest }
     {
         tables_tell();
@@ -162,13 +158,11 @@ impl Core {
         requires room { draft.old.is_full ≡ false }
         requires numbers { HasNumbers self.old draft.old }
         requires bytes { HasRoomFrom self.old place draft.old }
-        requires reserved { messages_max ≤ draft.old.count + self.old.calls.room }
         ensures so_far { (first : Filling D) (k count : ℕ) → k < count → SoFar first self.old draft.old place k count → SoFar first self.new draft.new result (k + 1) count }
         ensures few { result ≤ place + 1 }
         ensures numbers { HasNumbers self.new draft.new }
         ensures bytes_left { HasRoomFrom self.new result draft.new }
         ensures same_room { length draft.new.rows + draft.new.room ≡ length draft.old.rows + draft.old.room }
-        ensures reserved { messages_max ≤ draft.new.count + self.new.calls.room }
         ensures rest { record self.new.rest { counters = self.old.rest.counters } ≡ self.old.rest }
     {
         match self.calls.member(Group::Queued, place) {
@@ -187,7 +181,6 @@ impl Core {
     pub(crate) fn says_calls<D: Draw>(&mut self, draft: &mut Draft)
         requires numbers { HasNumbers self.old draft.old }
         requires bytes { HasRoomFrom self.old 0 draft.old }
-        requires reserved { messages_max ≤ draft.old.count + self.old.calls.room }
         ensures goes { (filling : Filling D) → Goes self.old draft.old filling → Goes self.new draft.new (fold says_call filling (queue filling)) }
         ensures numbers { HasNumbers self.new draft.new }
         ensures same_room { length draft.new.rows + draft.new.room ≡ length draft.old.rows + draft.old.room }

@@ -5,21 +5,21 @@ use octets::{IdList, Octets};
 use std::alloc::Global;
 
 /// How messages fared that a request asked about, a byte for each.
-#[derive(Debug, Drop)]
+#[derive(Drop)]
 pub(crate) struct States {
     pub(crate) request: u64,
     pub(crate) info: Octets,
 }
 
 /// The last request for states.
-#[derive(Debug, Drop)]
+#[derive(Drop)]
 pub(crate) struct Asked {
     pub(crate) number: u64,
     pub(crate) numbers: IdList,
 }
 
 /// What waits.
-#[derive(Debug, Drop)]
+#[derive(Drop)]
 pub(crate) struct Waiting {
     pub(crate) told: Option<States>,
     pub(crate) resent: NumberList,

@@ -1,5 +1,6 @@
 -- What the calls of a client in one state make of its course.
-use Rattle.std.proofs.Common.{◌≡◌, ℕ, max, true, false, Option, Some, None, List, Result, Ok, Err, refl, ap, sym, subst, ◌∙◌}
+use Rattle.std.proofs.Common.{◌≡◌, ℕ, max, Bool, true, false, Option, Some, None, List, Result, Ok, Err, refl, ap, sym, subst, ◌∙◌}
+use Rattle.std.specs.Prelude.{◌&&◌, not}
 use Rattle.std.proofs.lemmas.Bool.{true≢false}
 use Rattle.auth_keys.specs.declared.ring.RingKey.{RingKey}
 use Rattle.draws.specs.Draws.{draw_after, word_after}
@@ -8,20 +9,20 @@ use Rattle.envelope.specs.declared.parts.Dir.TheVariants.{Down}
 use Rattle.envelope.specs.Opening.{Opens}
 use Rattle.envelope.specs.Packet.{Lock}
 use Rattle.octets.specs.declared.memory.Memory.{Memory}
-use Rattle.client_rules.specs.Client.{Client, at_moment}
+use Rattle.client_rules.specs.Client.{Client, at_moment, is_open}
 use Rattle.client_rules.specs.Flush.{flush}
 use Rattle.client_rules.specs.Events.{renewed, takes}
 use Rattle.client_rules.specs.Taking.{take}
 use Rattle.client_rules.specs.Sending.{Setting}
-use Rattle.client_core.specs.Flushed.{Flushes, Leaves, TellsFlush}
-use Rattle.client_core.specs.Holding.{Became, IsInState, Opening, Open, Ended, kept_of, phase_of}
+use Rattle.client_core.specs.Flushed.{Flushes}
+use Rattle.client_core.specs.Holding.{Became, IsInState, Opening, Open, Ended, is_open_now, kept_of, phase_of}
 use Rattle.client_core.specs.Keys.{HasKeys as HasKeysOf, Keys, keys_in}
 use Rattle.client_core.specs.Kept.{Contents, Stands}
 use Rattle.client_core.specs.declared.flush.Flush.{Flush}
 use Rattle.client_core.specs.declared.flush.Flush.TheVariants as told
 use Rattle.client_core.specs.declared.holder.Holder.{Holder}
 use Rattle.client_core.specs.declared.holder.Holder.TheVariants as holder
-use Rattle.client_node.specs.Course.{Course, flushed_in, heard_in, must_renew, renews}
+use Rattle.client_node.specs.Course.{Course, flushed_in, heard_in, is_stuck, must_renew, renews}
 use Rattle.client_node.specs.Standing.{FlushedAs, HasKeys, HeardAs, IsOpened, KeepsKeys, StandsAs, StandsFor}
 
 -- ---- a flush
@@ -71,16 +72,41 @@ stays step kept draw course stands none =
     let same : must_renew course.phase course.client ≡ false = subst (λ phase. must_renew phase course.client ≡ false) stands.phase none in
     rw same stands
 
-pub goes_on : {S : Type 0} (step : S → ℕ × S) (kept left : Contents) (draw drawn : S) (course : Course S)
-    → StandsAs (holder.Open kept) draw course → must_renew Open course.client ≡ true
-    → ((client : Client) → Stands kept client → Stands left (renewed (word_after step 0 draw) client))
-    → drawn ≡ draw_after step 1 draw
-    → StandsAs (holder.Opening left) drawn (renews step course)
-goes_on step kept left draw drawn course stands must renewal after =
+pub goes_on : {S : Type 0} (step : S → ℕ × S) (kept left : Holder) (draw drawn : S) (course : Course S)
+    → StandsAs kept draw course → must_renew (phase_of kept) course.client ≡ true
+    → ((client : Client) → StandsFor kept client → StandsFor left (renewed (word_after step 0 draw) client))
+    → drawn ≡ draw_after step 1 draw → phase_of left ≡ Opening
+    → StandsAs left drawn (renews step course)
+goes_on step kept left draw drawn course stands must renewal after opening =
     let same : must_renew course.phase course.client ≡ true = subst (λ phase. must_renew phase course.client ≡ true) stands.phase must in
-    let client : Stands left (renewed (word_after step 0 course.draw) course.client) =
-    subst (λ before. Stands left (renewed (word_after step 0 before) course.client)) stands.draw (renewal course.client stands.client) in
-    rw same (record { phase = refl; client = client; draw = after ∙ ap (λ before. draw_after step 1 before) stands.draw })
+    let client : StandsFor left (renewed (word_after step 0 course.draw) course.client) =
+    subst (λ before. StandsFor left (renewed (word_after step 0 before) course.client)) stands.draw (renewal course.client stands.client) in
+    rw same (record { phase = opening; client = client; draw = after ∙ ap (λ before. draw_after step 1 before) stands.draw })
+
+open_both : (one two : Bool) → one ≡ true → two ≡ false → (one && not two) ≡ true
+open_both true false is living = refl
+open_both true true is living = absurd (true≢false living)
+open_both false two is living = absurd (true≢false (sym is))
+
+open_parts : (one two : Bool) → (one && not two) ≡ true → (one ≡ true) × (two ≡ false)
+open_parts true false is = (refl, refl)
+open_parts true true is = absurd (true≢false (sym is))
+open_parts false two is = absurd (true≢false (sym is))
+
+-- one that isn't open goes on in no other session
+pub renews_not : (held : Holder) (whole : Client) → IsInState held → is_open_now (kept_of held).rest ≡ false → false ≡ must_renew (phase_of held) whole
+renews_not (holder.Opening kept) whole state closed = refl
+renews_not (holder.Open kept) whole state closed = absurd (true≢false (sym (open_both (is_open kept.rest) kept.rest.has_ended state.0 state.1) ∙ closed))
+renews_not (holder.Ended kept) whole state closed = refl
+
+-- an open one does where it is stuck
+pub renews_stuck : (held : Holder) (whole : Client) → IsInState held → is_open_now (kept_of held).rest ≡ true → is_stuck whole ≡ must_renew (phase_of held) whole
+renews_stuck (holder.Opening kept) whole state opened = absurd (true≢false (sym (open_parts (is_open kept.rest) kept.rest.has_ended opened).0 ∙ state.0))
+renews_stuck (holder.Open kept) whole state opened = refl
+renews_stuck (holder.Ended kept) whole state opened = absurd (true≢false (sym state ∙ (open_parts (is_open kept.rest) kept.rest.has_ended opened).1))
+
+pub open_living : (client : Client) → is_open_now client ≡ true → client.has_ended ≡ false
+open_living client opened = (open_parts (is_open client) client.has_ended opened).1
 
 -- ---- keys
 

@@ -1,10 +1,11 @@
 //! What became of a client's calls, whatever state it is in.
 
-ghost use Rattle.std.specs.Prelude.{◌≡◌, ◌≤◌, MatchOption, false, length, not, true};
+ghost use Rattle.std.specs.Prelude.{◌≡◌, ◌≤◌, IsTrue, MatchOption, false, length, not, true};
 ghost use Rattle.call_table.specs.Kept.{shown, state_in};
 ghost use Rattle.call_table.specs.Table.{IsGiven};
 ghost use Rattle.client_rules.specs.Client.{Client, calls_of};
-ghost use Rattle.client_node.specs.Course.{is_decided, must_renew};
+ghost use Rattle.client_core.specs.Holding.{IsInState, is_open_now};
+ghost use Rattle.client_node.specs.Course.{is_decided, is_stuck, must_renew};
 ghost use Rattle.client_node.specs.Kinds.{NoneBetween, has_kind, has_row, is_kind, is_kind_at};
 ghost use Rattle.client_node.specs.Standing.{StandsFor, has_undecided, kept_of, phase_of};
 
@@ -114,11 +115,20 @@ pub(crate) fn is_decided(client: &Holder, cursor: &mut Cursor) -> bool
 
 /// Whether the client goes on in another session: it is open, a call or the binding waits for one, and no call is sent.
 pub(crate) fn must_renew(client: &Holder, cursor: &mut Cursor) -> bool
-    ensures { (whole : Client) → StandsFor client.now whole → result ≡ must_renew (phase_of client.now) whole }
+    ensures told { (whole : Client) → StandsFor client.now whole → result ≡ must_renew (phase_of client.now) whole }
+    ensures open { IsTrue result → is_open_now (kept_of client.now).rest ≡ true }
+    ensures state { IsInState client.now }
 {
-    let Holder::Open(open) = client else {
+    if !client.is_open() {
         return false;
-    };
-    let is_held = matches!(open.binding(), Some(BindState::Held));
+    }
+    is_stuck(client, cursor)
+}
+
+/// Whether a call or the binding waits for another session, and no call is sent.
+fn is_stuck(client: &Holder, cursor: &mut Cursor) -> bool
+    ensures { (whole : Client) → StandsFor client.now whole → result ≡ is_stuck whole }
+{
+    let is_held = matches!(client.binding(), Some(BindState::Held));
     !has(client, Kind::Sent, cursor) && (is_held || has(client, Kind::Held, cursor))
 }

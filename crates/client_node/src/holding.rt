@@ -53,7 +53,7 @@ pub(crate) fn flush<S: Seal, D: Draw>(
 }
 
 /// The client goes on in another session where it has to.
-#[tactic(auto, using(crate::proofs::HolderLemmas::stays, crate::proofs::HolderLemmas::goes_on, crate::proofs::HolderLemmas::kept_in))]
+#[tactic(auto, using(crate::proofs::HolderLemmas::stays))]
 pub(crate) fn renew<D: Draw>(client: Holder, cursor: &mut Cursor, draw: &mut D) -> Holder
     ensures renews { (course : Course D) → StandsAs client draw.old course → StandsAs result draw.new (renews D.step course) }
     ensures keys { KeepsKeys client result }
@@ -62,11 +62,7 @@ pub(crate) fn renew<D: Draw>(client: Holder, cursor: &mut Cursor, draw: &mut D) 
     if !must_renew(&client, cursor) {
         return client;
     }
-    match client {
-        Holder::Open(client) => Holder::Opening(client.renew(draw)),
-        Holder::Opening(client) => Holder::Opening(client),
-        Holder::Ended(client) => Holder::Ended(client),
-    }
+    client.renew(draw)
 }
 
 /// A packet came. An ended client takes none.

@@ -134,20 +134,6 @@ refused-relay words first plain none (Relay told) s = none told (record { taken 
 refused-relay words first plain none (Help page) s = not_both words s.means plain
 refused-relay words first plain none Version s = apart words _ _ first s.first refl
 
--- words that begin with no command's name
-pub refused-other : (words : List (List ℕ)) (word : List ℕ) → slice_get words 0 ≡ Some word → asks_help words ≡ false
-    → word ≢ codes "sim" → word ≢ codes "load" → word ≢ codes "serve" → word ≢ codes "call" → word ≢ codes "pair" → word ≢ codes "check" → word ≢ codes "relay" → words ≢ codes "--version" ∷ []
-    → (said : Command) → Says words said → ⊥
-refused-other words word first plain a b c d e f g h (Sim told) s = let first_is = s.first in a cc
-refused-other words word first plain a b c d e f g h (Load told) s = let first_is = s.first in b cc
-refused-other words word first plain a b c d e f g h (Serve told) s = let first_is = s.first in c cc
-refused-other words word first plain a b c d e f g h (Call told) s = let first_is = s.first in d cc
-refused-other words word first plain a b c d e f g h (Pair told) s = let first_is = s.first in e cc
-refused-other words word first plain a b c d e f g h Check s = let first_is = s.first in f cc
-refused-other words word first plain a b c d e f g h (Relay told) s = let first_is = s.first in g cc
-refused-other words word first plain a b c d e f g h (Help page) s = not_both words s.means plain
-refused-other words word first plain a b c d e f g h Version s = h s.means
-
 -- help is asked for, and behind no such word there is a page
 pub refused-help : (words : List (List ℕ)) (word : List ℕ) → slice_get words 0 ≡ Some word → asks_help words ≡ true
     → ((page : Page) → word ≢ page_word page) → (said : Command) → Says words said → ⊥

@@ -8,7 +8,7 @@ use Rattle.auth_keys.specs.KeyFile.{IsRingOf}
 use Rattle.auth_keys.specs.Rings.{entry_of, kind_in}
 use Rattle.call_table.specs.declared.call.CallNo.{CallNo}
 use Rattle.call_table.specs.Table.{Call, State, Done, call_no, is_open, state_at}
-use Rattle.client_rules.specs.Asking.{Fault, has_call, pinged, salts_asked, ticked}
+use Rattle.client_rules.specs.Asking.{Fault, has_call}
 use Rattle.client_rules.specs.Client.{Client, calls_of, fresh_client}
 use Rattle.client_rules.specs.Flush.{Answer, Flushed, Nothing, Spent, flush}
 use Rattle.client_rules.specs.Sending.{Setting}
@@ -28,8 +28,6 @@ use Rattle.envelope.specs.declared.parts.Envelope.{Envelope}
 use Rattle.kifzaro.specs.Errors.{IsKeysError}
 use Rattle.kifzaro.specs.Rooms.{TellsRoom}
 use Rattle.kifzaro.specs.declared.error.Error.{Error}
-use Rattle.kifzaro.specs.declared.holding.Wish.{Wish}
-use Rattle.kifzaro.specs.declared.holding.Wish.TheVariants as wish
 use Rattle.kifzaro.specs.declared.error.Error.TheVariants as errors
 
 -- ---- what contracts see of a client
@@ -173,13 +171,6 @@ IsDecidedAt calls place = IfSome (state_at (call_no place) calls) (λ state. is_
 -- each call is
 abbrev pub AreDecided : List Call → Type 0
 AreDecided calls = (place : ℕ) → place < length calls → IsDecidedAt calls place
-
--- ---- what an open client is asked to do
-
-abbrev pub wished : Wish → Client → Client
-wished wish.Tick client = ticked client
-wished (wish.Ping id) client = pinged id client
-wished (wish.Salts count) client = salts_asked count client
 
 -- ---- what comes
 

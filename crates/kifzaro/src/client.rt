@@ -22,10 +22,10 @@ ghost use Rattle.kifzaro.specs.Drawing.{drawing, drawn_from};
 ghost use Rattle.kifzaro.specs.declared.error.Error.TheVariants as errors;
 
 use crate::error::Error;
-use crate::holding::{self, Wish};
+use crate::holding;
 use crate::rings::{seal_with_perm, seal_with_temp};
 use crate::telling::put;
-use client_core::{CallNo, CallState, Flush, Holder, OpeningClient};
+use client_core::{CallNo, CallState, Flush, Holder, OpeningClient, Wish};
 use draws::{ChaChaDraw, Seeded};
 use envelope::MtSeal;
 use msg_ids::Moment;

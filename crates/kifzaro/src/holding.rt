@@ -13,31 +13,20 @@ ghost use Rattle.client_rules.specs.Learning.{ended};
 ghost use Rattle.client_rules.specs.Taking.{take};
 ghost use Rattle.client_core.specs.Flushed.{Flushes, setting_of};
 ghost use Rattle.client_core.specs.declared.flush.Flush.TheVariants as flushed;
-ghost use Rattle.client_core.specs.Holding.{is_open_now, kept_of};
+ghost use Rattle.client_core.specs.Holding.{is_open_now, kept_of, wished};
 ghost use Rattle.client_core.specs.Keys.{HasKeys, keys_in};
 ghost use Rattle.client_core.specs.Kept.{Stands};
-ghost use Rattle.kifzaro.specs.Clients.{Comes, TellsDropped, TellsEnded, TellsHeard, TellsOpen, TellsSubmit, wished};
+ghost use Rattle.kifzaro.specs.Clients.{Comes, TellsDropped, TellsEnded, TellsHeard, TellsOpen, TellsSubmit};
 ghost use Rattle.kifzaro.specs.Holding.{told_of};
 ghost use Rattle.kifzaro.specs.declared.error.Error.TheVariants as errors;
 
 use crate::error::Error;
-use client_core::{CallNo, Flush, Holder, NotSent, OpenClient};
+use client_core::{CallNo, Flush, Holder, NotSent, Wish};
 use draws::Draw;
 use envelope::{Refusal, Seal};
 use msg_ids::Moment;
 use octets::Memory;
 use std::alloc::Global;
-
-/// What an open client is asked to do.
-#[derive(Clone, Copy)]
-pub(crate) enum Wish {
-    /// To ask how the calls that are sent fared.
-    Tick,
-    /// To ask for an answer to a ping of this number.
-    Ping(u64),
-    /// To ask for so many salts.
-    Salts(u32),
-}
 
 /// A value comes to a place, and what was there is dropped: what that takes is proved once, whatever the value is.
 pub(crate) fn put<T: Drop>(place: &mut Option<T>, value: T)
@@ -89,24 +78,8 @@ pub(crate) fn ask(holder: &mut Holder, wish: Wish) -> Result<(), Error>
     if !holder.is_open() {
         return Err(Error::NotOpen);
     }
-    match holder {
-        Holder::Open(client) => {
-            grant(client, wish);
-            Ok(())
-        }
-        Holder::Opening(_) | Holder::Ended(_) => Err(Error::NotOpen),
-    }
-}
-
-fn grant(client: &mut OpenClient, wish: Wish)
-    ensures stands { (whole : Client) → Stands client.old whole → Stands client.new (wished wish whole) }
-    ensures keys { keys_in client.new ≡ keys_in client.old }
-{
-    match wish {
-        Wish::Tick => client.tick(),
-        Wish::Ping(id) => client.ping(id),
-        Wish::Salts(count) => client.ask_salts(count),
-    }
+    holder.ask(wish);
+    Ok(())
 }
 
 /// An open client is to have the answer to a call dropped.
@@ -119,12 +92,9 @@ pub(crate) fn drop_answer(holder: &mut Holder, call: CallNo) -> Result<(), Error
     if !holder.is_open() {
         return Err(Error::NotOpen);
     }
-    match holder {
-        Holder::Open(client) => match client.drop_answer(call) {
-            Ok(()) => Ok(()),
-            Err(NotSent) => Err(Error::NotSent),
-        },
-        Holder::Opening(_) | Holder::Ended(_) => Err(Error::NotOpen),
+    match holder.drop_answer(call) {
+        Ok(()) => Ok(()),
+        Err(NotSent) => Err(Error::NotSent),
     }
 }
 
@@ -191,11 +161,7 @@ pub(crate) fn renew<D: Draw>(holder: Holder, draw: &mut D) -> (Holder, Result<()
     if !holder.is_open() {
         return (holder, Err(Error::NotOpen));
     }
-    match holder {
-        Holder::Open(client) => (Holder::Opening(client.renew(draw)), Ok(())),
-        Holder::Opening(client) => (Holder::Opening(client), Err(Error::NotOpen)),
-        Holder::Ended(client) => (Holder::Ended(client), Err(Error::NotOpen)),
-    }
+    (holder.renew(draw), Ok(()))
 }
 
 /// An open client ends.
@@ -208,9 +174,5 @@ pub(crate) fn end(holder: Holder) -> (Holder, Result<(), Error>)
     if !holder.is_open() {
         return (holder, Err(Error::NotOpen));
     }
-    match holder {
-        Holder::Open(client) => (Holder::Ended(client.end()), Ok(())),
-        Holder::Opening(client) => (Holder::Opening(client), Err(Error::NotOpen)),
-        Holder::Ended(client) => (Holder::Ended(client), Err(Error::NotOpen)),
-    }
+    (holder.end(), Ok(()))
 }

@@ -22,7 +22,7 @@ use Rattle.call_table.specs.Table.{Call, call_no, first_from, is_number_of, livi
 use Rattle.client_rules.specs.Client.{Client, Binding, Needed, Held, Bound, Refused, StateRequest, Temporary, bound_so, calls_of, with_binding}
 use Rattle.client_rules.specs.Asking.{alone, begins}
 use Rattle.client_rules.specs.Learning.{ended, learn, learnt_max, learns, with_clock}
-use Rattle.client_rules.specs.Taking.{alone_among, alone_call, alone_number, answered_by, asked_states, asks_answer, becomes, binding_answered, binding_error, binding_noticed, fate_noticed, goes_again, has_asked, is_asked_by, noticed_by, packet_noticed, row, takes_over, told_of, told_state, told_states, with_notice_clock}
+use Rattle.client_rules.specs.Taking.{alone_among, alone_call, alone_number, answered_by, asked_states, asks_answer, becomes, binding_answered, binding_error, binding_noticed, fate_noticed, goes_again, has_asked, is_asked_by, noticed_by, packet_noticed, row, told_of, told_state, told_states, with_notice_clock}
 use Rattle.client_rules.specs.Filling.{numbers_max}
 use Rattle.law_client.specs.Clients.{StandsAs, IsAskedThere, state_there}
 use Rattle.law_client.specs.Packets.{item_there}
@@ -72,10 +72,6 @@ unasked v number client binding not_asked s =
 
 clock_same : (outer code : ℕ) (client : Client) → SameParts client (with_notice_clock outer code client)
 clock_same outer code client = clock_by (code == 16 || code == 17) outer client
-
--- a notice that brings no salt
-over_same : (outer about code : ℕ) (client : Client) → SameParts client (takes_over outer (record { about = about; code = code; salt = None }) client)
-over_same outer about code client = clock_same outer code client
 
 alone_only : OnlyFlags alone
 alone_only call = (record call.flags { alone = true }, refl)

@@ -19,10 +19,6 @@ is_within-within messages is =
 pub beyond-is_within : (messages : List Message) → (AreWithin messages → ⊥) → is_within messages ≡ false
 beyond-is_within messages beyond = elim (cases_Bool (is_within messages)) [ inl is ↦ absurd (beyond (is_within-within messages is)) | inr is ↦ is ]
 
-pub groups-first : (messages : List Message) → 0 < length messages → groups messages ≡ grouped (take 1 messages) (drop 1 messages)
-groups-first [] some = absurd (omega arith)
-groups-first (message ∷ messages) some = refl
-
 module _ (messages : List Message) (i : ℕ) (message : Message) (lt : i < length messages) (is : message ≡ get_or messages i message) where
   pub front_more : take (i + 1) messages ≡ take i messages ++ message ∷ []
   front_more = take_more messages i message lt ∙ ap (λ (m : Message). take i messages ++ m ∷ []) (sym is)

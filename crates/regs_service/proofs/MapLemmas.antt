@@ -11,9 +11,6 @@ use Rattle.std.proofs.lemmas.Bool.{ltb-true}
 use Rattle.regs_service.specs.Kept.{sums_of}
 use Rattle.regs_service.specs.Registers.{find, has_place}
 
-Entry : Type 0
-Entry = Vec ℕ Global × ℕ
-
 -- what a query finds in the map is what the name finds in its names and sums
 pub found : (name : List ℕ) (entries : List (Vec ℕ Global × ℕ))
     → lookup (is_at (slice_cmp nat_cmp name)) (sums_of entries) ≡ lookup (is_at (λ key. slice_cmp nat_cmp name key.items)) entries

@@ -19,7 +19,7 @@ use Rattle.secret_relay.specs.declared.link.Link.{Link}
 use Rattle.secret_relay.specs.Written.{frames_of, CanGoOut}
 use Rattle.secret_relay.specs.Passing.{Passes, Halts}
 use Rattle.secret_relay.specs.Going.{BeginsMisfit, Shown, Takes}
-use Rattle.secret_relay.specs.Stories.{Story, Opens, form_in, WentOut, GoesOn, ClientHalts, ServerHalts, UpEnds, DownEnds, with_up, with_down}
+use Rattle.secret_relay.specs.Stories.{Story, Opens, form_in, WentOut, ClientHalts, ServerHalts, UpEnds, DownEnds, with_up, with_down}
 use Rattle.secret_relay.specs.Links.{PassesUp, PassesDown}
 use Rattle.secret_relay.specs.Standing.{KeepsLink, Adds}
 use Rattle.secret_relay.proofs.Plain.{plain_shows, frames-append, one_frame_of, frames_of-append}
@@ -116,9 +116,6 @@ module _ (from to : Form) (plain : from ≢ Full) (ps qs : List (List ℕ)) (str
 
 module _ (pieces : Pieces) (form : Form) (secret : List ℕ) (old new : Link) (story : Story) (piece before after : List ℕ) (fault : Option RelayFault)
     (keeps : KeepsLink form secret old story) (passed : PassesUp form old new piece before after fault) where
-  abbrev here : GoesOn form secret story
-  here = keeps.so_far
-
   abbrev its_form : Form
   its_form = form_in keeps.so_far.opens.pair
 

@@ -1,5 +1,5 @@
 -- From what a form tells of the front of a text to one look, and from looks to what goes on of a text.
-use Rattle.std.proofs.Common.{◌≡◌, ◌≢◌, ℕ, ◌+◌, ◌-◌, ◌*◌, ◌<◌, ◌≤◌, List, [], ◌∷◌, ◌++◌, length, min, take, drop, refl, sym, ap, ap₂, subst, ◌∙◌, arith, inl, inr, append_assoc, append-nil, length-append, Option}
+use Rattle.std.proofs.Common.{◌≡◌, ◌≢◌, ℕ, ◌+◌, ◌-◌, ◌*◌, ◌<◌, ◌≤◌, List, [], ◌∷◌, ◌++◌, length, min, take, drop, sym, ap, ap₂, subst, ◌∙◌, arith, inl, inr, append_assoc, length-append}
 use Rattle.std.specs.Prelude.{slice_range}
 use Rattle.std.proofs.lemmas.List.{drop-take, drop-drop, take-take, take-append-drop, take_all, length-take, length-take-le, length-drop}
 use Rattle.std.proofs.lemmas.List.Elements.{All-append}
@@ -11,11 +11,10 @@ use Rattle.transport.specs.Forms.{framing_of, frame_of}
 use Rattle.transport.specs.Lawful.{lawful}
 use Rattle.transport.specs.declared.form.Form.{Form}
 use Rattle.transport.specs.declared.form.Form.TheVariants.{Full}
-use Rattle.secret_relay.specs.declared.fault.RelayFault.{RelayFault}
 use Rattle.secret_relay.specs.Written.{frames_of, CanGoOut}
-use Rattle.secret_relay.specs.Going.{BeginsMisfit, BeginsPacket, HasRoom, IsLeft, PassesOn, Takes}
+use Rattle.secret_relay.specs.Going.{BeginsMisfit, BeginsPacket, HasRoom, Takes}
 use Rattle.secret_relay.proofs.Plain.{payload_in, frames-append, frames_of-append, frames_of-one, one_frame_of}
-use Rattle.secret_relay.proofs.Every.{all_none, all_one}
+use Rattle.secret_relay.proofs.Every.{all_one}
 use Rattle.secret_relay.proofs.Readings.{not_begun}
 
 same_part : (text : List ℕ) (start end size : ℕ) → start ≤ end → end ≤ size → slice_range (take size text) start end ≡ slice_range text start end
@@ -77,9 +76,6 @@ spoilt_front form i text size fault h there spoilt = inr (record {
 
 -- ---- one packet after the other
 
-pub takes_none : (from to : Form) (text : List ℕ) → Takes from to [] text text
-takes_none from to text = record { frames = []; each = refl; whole = refl; go_out = all_none (CanGoOut to) }
-
 pub takes_one : (from to : Form) → from ≢ Full → (packets : List (List ℕ)) (text left : List ℕ) (start end size : ℕ)
     → Takes from to packets text left → BeginsPacket from to left start end size
     → Takes from to (packets ++ slice_range left start end ∷ []) text (drop size left)
@@ -108,9 +104,6 @@ pub record SoFar (from to : Form) (text left old new : List ℕ) : Type 0 where
   pub takes : Takes from to packets text left
   pub written : new ≡ old ++ frames_of to packets
 
-pub nothing_yet : (from to : Form) (text bytes : List ℕ) → SoFar from to text text bytes bytes
-nothing_yet from to text bytes = record { packets = []; takes = takes_none from to text; written = sym (append-nil bytes) }
-
 pub one_more : (from to : Form) → from ≢ Full → (text : List ℕ) (taken start end size : ℕ) (rest packet old before after : List ℕ)
     → rest ≡ drop taken text → packet ≡ slice_range rest start end
     → SoFar from to text (drop taken text) old before → BeginsPacket from to rest start end size → after ≡ before ++ frame_of to 0 packet
@@ -129,15 +122,6 @@ one_more from to plain text taken start end size rest packet old before after is
           ∙ ap (λ (l : List ℕ). old ++ l)
           (ap (λ (l : List ℕ). frames_of to so_far.packets ++ l) (sym (frames_of-one to p)) ∙ sym (frames_of-append to so_far.packets (p ∷ [])));
     }
-
-pub ended : (from to : Form) (fault : Option RelayFault) (text : List ℕ) (taken : ℕ) (rest old new : List ℕ) → rest ≡ drop taken text
-    → SoFar from to text (drop taken text) old new → IsLeft from to fault rest → PassesOn from to fault text (drop taken text) old new
-ended from to fault text taken rest old new is so_far left = record {
-  packets = so_far.packets;
-  takes = so_far.takes;
-  ends = subst (λ (l : List ℕ). IsLeft from to fault l) is left;
-  written = so_far.written;
-}
 
 -- ---- room
 

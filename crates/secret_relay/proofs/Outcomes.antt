@@ -134,9 +134,6 @@ untagged laws secret client o wire rest found n e none =
 
 -- ---- both sides
 
-abbrev pub Says : Form → Form → List (List ℕ) → RelayFault → Pair → List ℕ → Type 0
-Says from to packets fault pair rest = Halts (form_in pair) to packets fault (applied pair.up rest)
-
 module _ (laws : Below) (form : Form) (plain : form ≢ Full) (secret : List ℕ) (story : Story) (up down : List ℕ) where
   abbrev Other : Story
   Other = record story { upwards = up; downwards = down }

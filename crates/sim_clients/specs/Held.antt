@@ -1,9 +1,8 @@
--- A client in its seat, and what one is asked to do: scaffolding of private functions, and no promise.
+-- A client in its seat: scaffolding of private functions, and no promise.
 use Rattle.std.specs.Prelude.{ℕ, max, if◌then◌else◌, Option, Some, None, List, [], Result, Ok, Err}
 use Rattle.envelope.specs.declared.parts.Dir.{Dir}
 use Rattle.envelope.specs.declared.parts.Dir.TheVariants.{Down}
 use Rattle.envelope.specs.declared.parts.Envelope.{Envelope}
-use Rattle.client_rules.specs.Asking.{pinged, salts_asked, ticked}
 use Rattle.client_rules.specs.Client.{Client, fresh_client}
 use Rattle.client_rules.specs.Events.{takes}
 use Rattle.client_core.specs.Holding.{kept_of}
@@ -14,8 +13,6 @@ use Rattle.client_core.specs.declared.holder.Holder.{Holder}
 use Rattle.client_core.specs.declared.holder.Holder.TheVariants as holder
 use Rattle.sim_clients.specs.declared.fault.SeatFault.{SeatFault}
 use Rattle.sim_clients.specs.declared.fault.SeatFault.TheVariants as told
-use Rattle.sim_clients.specs.declared.wish.Wish.{Wish}
-use Rattle.sim_clients.specs.declared.wish.Wish.TheVariants as wish
 
 -- a seat is without its client only inside a call that moves it
 abbrev pub nobody : Holder
@@ -29,12 +26,6 @@ nobody =
 abbrev pub held : Option Holder → Holder
 held None = nobody
 held (Some holder) = holder
-
--- what an open client is asked to do
-abbrev pub wished : Wish → Client → Client
-wished wish.Tick client = ticked client
-wished (wish.Ping id) client = pinged id client
-wished (wish.Salts count) client = salts_asked count client
 
 -- a refusal of a call by what it is
 abbrev pub fault_of : SubmitFault → SeatFault

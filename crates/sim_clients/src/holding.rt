@@ -1,6 +1,6 @@
 //! The events of a client, whatever state it is in.
 
-ghost use Rattle.std.specs.Prelude.{◌≡◌, ◌≢◌, ℕ, None, IfErr, IfOk, OnErr, OnOk, List, Option, false, is_some, length, max};
+ghost use Rattle.std.specs.Prelude.{◌≡◌, ◌≢◌, ℕ, None, IfErr, IfOk, OnErr, OnOk, List, Option, false, is_some, length, max, true};
 ghost use Rattle.call_table.specs.Table.{call_no};
 ghost use Rattle.draws.specs.Draws.{draw_after, word_after};
 ghost use Rattle.envelope.specs.declared.parts.Dir.{Dir as Way};
@@ -12,20 +12,19 @@ ghost use Rattle.client_rules.specs.Events.{renewed, takes, unless_fault};
 ghost use Rattle.client_rules.specs.Learning.{ended};
 ghost use Rattle.client_rules.specs.Flush.{flush};
 ghost use Rattle.client_core.specs.Flushed.{Flushes, setting_of};
-ghost use Rattle.client_core.specs.Holding.{IsInState, kept_of};
+ghost use Rattle.client_core.specs.Holding.{is_open_now, kept_of, wished};
 ghost use Rattle.client_core.specs.Keys.{HasKeys, keys_in};
 ghost use Rattle.client_core.specs.Kept.{Stands};
 ghost use Rattle.world_rules.specs.Refusals.{goes_on, nothing_more, stands_open, undropped, unsent};
 ghost use Rattle.world_rules.specs.World.{Seat};
 ghost use Rattle.sim_clients.specs.declared.fault.SeatFault.TheVariants as told;
-ghost use Rattle.sim_clients.specs.Held.{TakenSo, taken_in, wished};
+ghost use Rattle.sim_clients.specs.Held.{TakenSo, taken_in};
 ghost use Rattle.sim_clients.specs.Standing.{IsReading};
 ghost use Rattle.sim_clients.specs.Told.{TellsRefusal, TellsSent, TellsUnsent, not_taken};
 
 use crate::fault::SeatFault;
 use crate::sent::Sent;
-use crate::wish::Wish;
-use client_core::{CallNo, Flush, Holder, NotSent, OpenClient, SubmitFault};
+use client_core::{CallNo, Flush, Holder, NotSent, SubmitFault, Wish};
 use draws::Draw;
 use envelope::laws::opens_what_it_sealed;
 use envelope::{Dir, Opened, Seal};
@@ -95,24 +94,8 @@ pub(crate) fn wish(holder: &mut Holder, wish: Wish) -> Result<(), SeatFault>
     if !holder.is_open() {
         return Err(SeatFault::WrongState);
     }
-    match holder {
-        Holder::Open(client) => {
-            grant(client, wish);
-            Ok(())
-        }
-        Holder::Opening(_) | Holder::Ended(_) => Err(SeatFault::WrongState),
-    }
-}
-
-fn grant(client: &mut OpenClient, wish: Wish)
-    ensures stands { (whole : Client) → Stands client.old whole → Stands client.new (wished wish whole) }
-    ensures keys { keys_in client.new ≡ keys_in client.old }
-{
-    match wish {
-        Wish::Tick => client.tick(),
-        Wish::Ping(id) => client.ping(id),
-        Wish::Salts(count) => client.ask_salts(count),
-    }
+    holder.ask(wish);
+    Ok(())
 }
 
 /// An open client is to have the answer to a call dropped.
@@ -126,23 +109,21 @@ pub(crate) fn drop_answer(holder: &mut Holder, call: CallNo) -> Result<(), SeatF
     if !holder.is_open() {
         return Err(SeatFault::WrongState);
     }
-    match holder {
-        Holder::Open(client) => drops(client, call),
-        Holder::Opening(_) | Holder::Ended(_) => Err(SeatFault::WrongState),
-    }
+    drops(holder, call)
 }
 
-fn drops(client: &mut OpenClient, call: CallNo) -> Result<(), SeatFault>
-    ensures refused { (seat : Seat) → Stands client.old seat.client → TellsRefusal (undropped call.n seat) result }
+fn drops(holder: &mut Holder, call: CallNo) -> Result<(), SeatFault>
+    requires open { is_open_now (kept_of holder.old).rest ≡ true }
+    ensures refused { (seat : Seat) → Stands (kept_of holder.old) seat.client → TellsRefusal (undropped call.n seat) result }
     ensures takes_no_memory { IfErr result (λ fault. fault ≢ told.Memory) }
-    ensures stands { OnOk result ((whole : Client) → Stands client.old whole → Stands client.new (dropped call whole)) }
-    ensures keys { keys_in client.new ≡ keys_in client.old }
-    ensures unchanged { OnErr result (client.new ≡ client.old) }
+    ensures stands { OnOk result ((whole : Client) → Stands (kept_of holder.old) whole → Stands (kept_of holder.new) (dropped call whole)) }
+    ensures keys { keys_in (kept_of holder.new) ≡ keys_in (kept_of holder.old) }
+    ensures unchanged { OnErr result (holder.new ≡ holder.old) }
 {
-    if call.n == 0 || call.n > client.calls() as u64 {
+    if call.n == 0 || call.n > holder.calls() as u64 {
         return Err(SeatFault::Submit(SubmitFault::NoSuchCall));
     }
-    match client.drop_answer(call) {
+    match holder.drop_answer(call) {
         Ok(()) => Ok(()),
         Err(NotSent) => Err(SeatFault::NotSent),
     }
@@ -217,11 +198,7 @@ pub(crate) fn renew<D: Draw>(holder: Holder, draw: &mut D) -> (Holder, Result<()
     if !holder.is_open() {
         return (holder, Err(SeatFault::WrongState));
     }
-    match holder {
-        Holder::Open(client) => (Holder::Opening(client.renew(draw)), Ok(())),
-        Holder::Opening(client) => (Holder::Opening(client), Err(SeatFault::WrongState)),
-        Holder::Ended(client) => (Holder::Ended(client), Err(SeatFault::WrongState)),
-    }
+    (holder.renew(draw), Ok(()))
 }
 
 /// An open client ends.
@@ -235,9 +212,5 @@ pub(crate) fn end(holder: Holder) -> (Holder, Result<(), SeatFault>)
     if !holder.is_open() {
         return (holder, Err(SeatFault::WrongState));
     }
-    match holder {
-        Holder::Open(client) => (Holder::Ended(client.end()), Ok(())),
-        Holder::Opening(client) => (Holder::Opening(client), Err(SeatFault::WrongState)),
-        Holder::Ended(client) => (Holder::Ended(client), Err(SeatFault::WrongState)),
-    }
+    (holder.end(), Ok(()))
 }

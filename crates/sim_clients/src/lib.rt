@@ -8,7 +8,6 @@ mod holding;
 mod seat;
 mod seats;
 mod sent;
-mod wish;
 
 pub use fault::SeatFault;
 pub use seats::Seats;

@@ -13,19 +13,18 @@ ghost use Rattle.client_rules.specs.Client.{calls_of, fresh_client, temporary_of
 ghost use Rattle.client_rules.specs.Events.{renewed, unless_fault};
 ghost use Rattle.client_rules.specs.Learning.{ended};
 ghost use Rattle.client_core.specs.Flushed.{setting_of};
+ghost use Rattle.client_core.specs.Holding.{wished};
 ghost use Rattle.world_rules.specs.Refusals.{NoClient, at_client, clients_max, goes_on, nothing_more, stands_open, undropped, unless, unsent};
 ghost use Rattle.world_rules.specs.Run.{set};
 ghost use Rattle.world_rules.specs.World.{Seat as WorldSeat, changed_at, counted, owner, seat_now};
 ghost use Rattle.sim_clients.specs.declared.fault.SeatFault.TheVariants as told;
-ghost use Rattle.sim_clients.specs.Held.{wished};
 ghost use Rattle.sim_clients.specs.Standing.{Becomes, HaveKeys, IsReading, KeepKeys, Stand, flushed_by, taken_at};
 ghost use Rattle.sim_clients.specs.Told.{IsClientOf, TellsRefusal, TellsSent, TellsUnsent, not_taken};
 
 use crate::fault::SeatFault;
 use crate::seat::Seat;
 use crate::sent::Sent;
-use crate::wish::Wish;
-use client_core::{CallNo, Holder, OpeningClient};
+use client_core::{CallNo, Holder, OpeningClient, Wish};
 use draws::Draw;
 use envelope::Seal;
 use msg_ids::Moment;
@@ -46,7 +45,7 @@ pub struct Seats {
 impl Model for Seats {
     ghost use Rattle.std.specs.Prelude.{◌≤◌, List, vec_len};
     ghost use Rattle.world_rules.specs.Refusals.{clients_max};
-    ghost use Rattle.sim_clients.specs.Held.{wished};
+    ghost use Rattle.client_core.specs.Holding.{wished};
     ghost use Rattle.sim_clients.specs.Standing.{Kept};
 
     ghost Value = { List Kept };

@@ -38,6 +38,20 @@ rises n (first ∷ batches) counted (suc i) zero d le below = absurd (omega (ari
 rises n (first ∷ batches) counted (suc i) (suc j) d le below =
     rises (n + length (packets_in first)) batches counted.1 i j d (omega (arith, le)) (omega (arith, below))
 
+-- batches before the last that begins by a place begin by it too, and those behind the next one don't where that one doesn't
+pub begun-all : (batches : List Batch) (begun place : ℕ) → AreCounted 0 batches → 0 < begun → begun ≤ length batches
+    → ((d : Batch) → (get_or batches (begun - 1) d).before ≤ place) → (k : ℕ) (d : Batch) → k < begun → (get_or batches k d).before ≤ place
+begun-all batches begun place counted some there last k d below =
+    let up : (get_or batches k d).before ≤ (get_or batches (begun - 1) d).before = rises 0 batches counted k (begun - 1) d (omega (arith, below)) (omega (arith, some, there)) in
+    omega (arith, up, last d)
+
+pub later-all : (batches : List Batch) (begun place : ℕ) → AreCounted 0 batches
+    → ((d : Batch) → begun < length batches → place < (get_or batches begun d).before) → (k : ℕ) (d : Batch) → begun ≤ k → k < length batches
+    → place < (get_or batches k d).before
+later-all batches begun place counted next k d least below =
+    let up : (get_or batches begun d).before ≤ (get_or batches k d).before = rises 0 batches counted begun k d least below in
+    omega (arith, up, next d (omega (arith, least, below)))
+
 -- a place in one list behind another
 get-front : {X : Type 0} (xs ys : List X) (k : ℕ) → k < length xs → slice_get (xs ++ ys) k ≡ slice_get xs k
 get-front [] ys k below = absurd (let no : k < 0 = below in omega (arith, no))
@@ -96,6 +110,15 @@ one-more batches batch len capacity count room more is there before size =
       places = omega (arith, is.places, there);
       few = λ no. absurd (omega (arith, no));
     }
+
+-- no room any more
+pub no-room : (batches : List Batch) (len capacity count room : ℕ) → IsBag batches len capacity count room → IsBag batches len capacity count 0
+no-room batches len capacity count room is = record {
+  each = is.each;
+  all = is.all;
+  places = omega (arith, is.places);
+  few = λ no. absurd (omega (arith, no));
+}
 
 -- a number from 1 on
 counted-behind : {X : Type 0} (number : ℕ) (xs : List X) → number ≢ 0 → counted number xs ≡ slice_get xs (number - 1)

@@ -1,6 +1,6 @@
 //! The bag of a world.
 
-ghost use Rattle.std.specs.Prelude.{◌≡◌, ℕ, ◌<◌, ◌≤◌, ◌++◌, ◌∷◌, [], map, option_map, length, slice_get, slice_index_or, OnOk, OnErr};
+ghost use Rattle.std.specs.Prelude.{◌≡◌, ℕ, ◌<◌, ◌≤◌, ◌-◌, ◌++◌, ◌∷◌, [], map, option_map, length, slice_get, slice_index_or, IsTrue, OnOk, OnErr};
 ghost use Rattle.world_rules.specs.World.{counted};
 ghost use Rattle.sim_server.specs.declared.bag.Batch.{Batch};
 ghost use Rattle.sim_server.specs.Bags.{AreCounted};
@@ -61,14 +61,28 @@ impl Batch {
     }
 }
 
-// How many batches begin by this place. Found by halving.
+// How many batches begin by this place. Most batches have one packet, so one more than the place is tried first; else it is
+// found by halving.
 fn begun_by(batches: &[Batch], place: u64) -> usize
     requires { AreCounted 0 batches.now }
     ensures within { result ≤ length batches.now }
     ensures begun { (k : ℕ) (d : Batch) → k < result → (slice_index_or batches.now k d).before ≤ place }
     ensures later { (k : ℕ) (d : Batch) → result ≤ k → k < length batches.now → place < (slice_index_or batches.now k d).before }
 {
+    if place < batches.len() as u64 && is_begun_by(batches, place as usize + 1, place) {
+        return place as usize + 1;
+    }
     batches.partition_point(|batch| batch.before <= place)
+}
+
+// Whether the last of so many batches begins by this place, and the next one doesn't.
+fn is_begun_by(batches: &[Batch], begun: usize, place: u64) -> bool
+    requires some { 0 < begun }
+    requires there { begun ≤ length batches.now }
+    ensures begun { IsTrue result → (d : Batch) → (slice_index_or batches.now (begun - 1) d).before ≤ place }
+    ensures later { IsTrue result → (d : Batch) → begun < length batches.now → place < (slice_index_or batches.now begun d).before }
+{
+    batches[begun - 1].before <= place && (begun == batches.len() || place < batches[begun].before)
 }
 
 /// Every packet that was ever made, in order. What one event makes is put there whole, in room that was taken before it, so
@@ -165,6 +179,10 @@ impl Bag {
         requires { 0 < self.old.room }
         ensures { self.new.made ≡ self.old.made ++ map made_of_out outs.items }
     {
+        self.room = 0;
+        if outs.is_empty() {
+            return;
+        }
         let before = self.count;
         let more = outs.as_slice().len() as u64;
         self.batches.push_reserved(Batch {
@@ -172,6 +190,5 @@ impl Bag {
             packets: Packets::Down(outs),
         });
         self.count += more;
-        self.room = 0;
     }
 }

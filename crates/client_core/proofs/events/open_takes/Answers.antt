@@ -33,3 +33,26 @@ returns-in-Ended-clause-why g c = λ whole stands. rw c.in-Ended.is at (c.receiv
 
 pub returns-in-Memory-clause-stays : goal.returns-in-Memory-clause-stays
 returns-in-Memory-clause-stays g c = λ whole stands. rw c.in-Memory.is at (c.receive-step.ensures.unchanged_on_memory whole stands)
+
+pub returns-in-Ended-clause-other : goal.returns-in-Ended-clause-other
+returns-in-Ended-clause-other g c = λ whole stands none.
+    let took = rw c.in-Ended.is at (c.receive-step.ensures.other whole stands none) in
+    (now_ended (at_moment c.args.now whole) took.0, took.1)
+
+pub returns-in-Still-clause-keys : goal.returns-in-Still-clause-keys
+returns-in-Still-clause-keys g c = rw c.in-Still.is at c.receive-step.ensures.keys
+
+pub returns-in-Still-clause-count : goal.returns-in-Still-clause-count
+returns-in-Still-clause-count g c = rw c.in-Still.is at c.receive-step.ensures.count
+
+pub returns-in-Ended-clause-keys : goal.returns-in-Ended-clause-keys
+returns-in-Ended-clause-keys g c = rw c.in-Ended.is at c.receive-step.ensures.keys
+
+pub returns-in-Ended-clause-count : goal.returns-in-Ended-clause-count
+returns-in-Ended-clause-count g c = rw c.in-Ended.is at c.receive-step.ensures.count
+
+pub returns-in-Memory-clause-keys : goal.returns-in-Memory-clause-keys
+returns-in-Memory-clause-keys g c = rw c.in-Memory.is at c.receive-step.ensures.keys
+
+pub returns-in-Memory-clause-count : goal.returns-in-Memory-clause-count
+returns-in-Memory-clause-count g c = rw c.in-Memory.is at c.receive-step.ensures.count

@@ -2,7 +2,7 @@ use Rattle.std.proofs.Common.{◌≡◌, ℕ, ◌<◌, ◌≤◌, leb, true, fal
 use Rattle.std.proofs.lemmas.Bool.Decides.{leb_tells}
 use Rattle.std.proofs.lemmas.List.Sorted.{IsPartitionedBy-leb, IsPartitionPoint-from_clause}
 use Rattle.sim_server.specs.declared.bag.Batch.{Batch}
-use Rattle.sim_server.proofs.BagLemmas.{rises}
+use Rattle.sim_server.proofs.BagLemmas.{begun-all, later-all, rises}
 use Rattle.sim_server.proofs.bag.begun_by.Goals as goal
 
 is-le : (one other : ℕ) → leb one other ≡ true → one ≤ other
@@ -24,3 +24,11 @@ returns-clause-later c = λ k d least below.
     let point = IsPartitionPoint-from_clause (λ (batch : Batch). leb batch.before c.args.place) batches c.partition_point.result c.partition_point.ensures.partitioned
     (IsPartitionedBy-leb (λ (batch : Batch). batch.before) batches c.args.place (rises 0 batches c.requires)) (λ a r f called. search (rules, tests)) in
     is-more _ _ (point.1 k d least below)
+
+pub returns-then-is_begun_by-clause-begun : goal.returns-then-is_begun_by-clause-begun
+returns-then-is_begun_by-clause-begun c =
+    begun-all c.args.batches.now _ c.args.place c.requires (omega arith) (omega arith) (c.is_begun_by.ensures.begun c.if-is_begun_by.true)
+
+pub returns-then-is_begun_by-clause-later : goal.returns-then-is_begun_by-clause-later
+returns-then-is_begun_by-clause-later c =
+    later-all c.args.batches.now _ c.args.place c.requires (c.is_begun_by.ensures.later c.if-is_begun_by.true)

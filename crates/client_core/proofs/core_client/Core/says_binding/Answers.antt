@@ -1,18 +1,19 @@
-use Rattle.std.proofs.Common.{◌≡◌, ◌∙◌, true, List, Some, ap, sym, length}
+use Rattle.std.proofs.Common.{◌≡◌, ◌∙◌, ℕ, true, List, Some, ap, sym, subst, length, arith}
 use Rattle.auth_keys.specs.declared.ring.RingKey.{RingKey}
 use Rattle.auth_keys.specs.Rings.{entry_of}
 use Rattle.service_tl.specs.declared.lists.Message.{Message}
 use Rattle.client_rules.specs.Client.{Client, is_open, time_of}
 use Rattle.client_rules.specs.Filling.{asks_binding}
 use Rattle.client_rules.specs.Sending.{draw_after_binding}
-use Rattle.client_core.specs.Asked.{asking_message, needed_of}
+use Rattle.client_core.specs.Asked.{asked_message, asking_message, needed_of}
 use Rattle.client_core.specs.Flushed.{setting_of}
 use Rattle.client_core.proofs.BoundLemmas.{asked_draw, asked_goes, asked_kept, needed_goes, unasked_draw, under_key}
 use Rattle.client_core.proofs.GoesLemmas.{goes_out, same_goes, told}
 use Rattle.client_core.specs.Kept.{Contents}
-use Rattle.client_core.specs.Owed.{holds_back}
-use Rattle.client_core.proofs.FrontLemmas.{needs_holds}
-use Rattle.client_core.proofs.RoomLemmas.{takes_full}
+use Rattle.client_core.specs.Draft.{Draft, TakesUp}
+use Rattle.client_core.specs.Owed.{binding_most}
+use Rattle.client_core.proofs.FrontLemmas.{asked_holds, most_so, needs_so, numbers_so}
+use Rattle.client_core.proofs.RoomLemmas.{room_less, takes_full}
 use Rattle.client_core.proofs.core_client.Core.says_binding.Goals as goal
 
 pub returns-then-not-takes-clause-goes : goal.returns-then-not-takes-clause-goes
@@ -87,14 +88,35 @@ returns-clause-drawn g c filling is drawn =
     ∙ (ap (draw_after_binding setting) drawn ∙ sym c.ask_binding.ensures.drawn))
 
 pub ask_binding-requires-clause-bytes : goal.ask_binding-requires-clause-bytes
-ask_binding-requires-clause-bytes g c = rw (c.takes.ensures.kept c.if-not-takes.false) c.requires.bytes
+ask_binding-requires-clause-bytes g c =
+    let needs = needs_so c.args.self.now.rest c.in-Some.needed (sym c.is_open.ensures.open ∙ c.if-not-is_open.false)
+    (ap (λ (core : Contents). needed_of core.rest.temporary) (sym c.self.view_is) ∙ (sym c.need_of.ensures ∙ c.in-Some.is)) in
+    rw (c.takes.ensures.kept c.if-not-takes.false) (room_less _ _ _ (omega (arith, most_so c.args.self.now.rest needs)) c.requires.bytes)
+
+pub ask_binding-requires-clause-place : goal.ask_binding-requires-clause-place
+ask_binding-requires-clause-place g c =
+    let needs = needs_so c.args.self.now.rest c.in-Some.needed (sym c.is_open.ensures.open ∙ c.if-not-is_open.false)
+    (ap (λ (core : Contents). needed_of core.rest.temporary) (sym c.self.view_is) ∙ (sym c.need_of.ensures ∙ c.in-Some.is)) in
+    omega (arith, ap (λ (draft : Draft). draft.numbers) (c.takes.ensures.kept c.if-not-takes.false), numbers_so c.args.self.now.rest needs, c.requires.place)
+
+pub ask_binding-requires-clause-room : goal.ask_binding-requires-clause-room
+ask_binding-requires-clause-room g c =
+    c.requires.room (needs_so c.args.self.now.rest c.in-Some.needed (sym c.is_open.ensures.open ∙ c.if-not-is_open.false)
+    (ap (λ (core : Contents). needed_of core.rest.temporary) (sym c.self.view_is) ∙ (sym c.need_of.ensures ∙ c.in-Some.is)))
 
 pub returns-then-not-takes-clause-takes : goal.returns-then-not-takes-clause-takes
 returns-then-not-takes-clause-takes g c = takes_full _ _ _ (c.takes.ensures.full c.if-not-takes.true)
 
 pub returns-clause-takes : goal.returns-clause-takes
-returns-clause-takes g c = rw (sym (c.takes.ensures.kept c.if-not-takes.false)) c.ask_binding.ensures.takes
+returns-clause-takes g c =
+    let needs = needs_so c.args.self.now.rest c.in-Some.needed (sym c.is_open.ensures.open ∙ c.if-not-is_open.false)
+    (ap (λ (core : Contents). needed_of core.rest.temporary) (sym c.self.view_is) ∙ (sym c.need_of.ensures ∙ c.in-Some.is)) in
+    subst (λ (n : ℕ). TakesUp (binding_most c.args.self.now.rest) n c.args.draft.now c.ask_binding.new.draft) (sym (numbers_so c.args.self.now.rest needs))
+    (subst (λ (n : ℕ). TakesUp n 1 c.args.draft.now c.ask_binding.new.draft) (sym (most_so c.args.self.now.rest needs))
+    (rw (sym (c.takes.ensures.kept c.if-not-takes.false)) c.ask_binding.ensures.takes))
 
 pub returns-clause-held : goal.returns-clause-held
 returns-clause-held g c is =
-    ap holds_back (ap (λ (core : Contents). core.rest.temporary) (sym c.self.view_is)) ∙ needs_holds _ c.in-Some.needed (sym c.need_of.ensures ∙ c.in-Some.is)
+    let rest = c.ask_binding.ensures.asked in
+    asked_holds c.args.self.now.rest c.ask_binding.new.self.rest (asked_message g.D.Draw.step c.in-Some-find.key.now c.time-at.result c.args.self.now.rest c.in-Some.needed c.args.draw.now)
+    (ap (λ (client : Client). client.learnt) rest) (ap (λ (client : Client). client.temporary) rest) is

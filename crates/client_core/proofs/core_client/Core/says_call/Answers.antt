@@ -1,4 +1,4 @@
-use Rattle.std.proofs.Common.{◌≡◌, ◌∙◌, ap, refl, sym}
+use Rattle.std.proofs.Common.{◌≡◌, ◌∙◌, ◌-◌, Some, ap, refl, sym, arith}
 use Rattle.std.proofs.lemmas.Bool.{true≢false}
 use Rattle.call_table.specs.declared.call.Group.TheVariants as group
 use Rattle.call_table.specs.declared.call.Fate.TheVariants as fate
@@ -8,7 +8,7 @@ use Rattle.client_rules.specs.Filling.{Never, Waits, Goes as Going}
 use Rattle.call_table.specs.Kept.{Contents as Calls, settled_row}
 use Rattle.client_core.specs.Draft.{LeavesQueue}
 use Rattle.client_core.specs.Kept.{Contents}
-use Rattle.client_core.specs.Owed.{holds_back}
+use Rattle.client_core.specs.Owed.{follows_at, holds_back}
 use Rattle.client_core.proofs.FrontLemmas.{never_not, room_behind, room_never, room_waits, waits_not, waits_so}
 use Rattle.client_core.proofs.GoesLemmas.{goes_so, if_any, is_there, turn_any, turn_comes}
 use Rattle.client_core.proofs.QueueLemmas.{left_group}
@@ -62,15 +62,19 @@ returns-in-Goes-clause-bytes_behind g c out place told has = room_behind _ _ _ (
 
 pub returns-in-Waits-clause-bytes_behind : goal.returns-in-Waits-clause-bytes_behind
 returns-in-Waits-clause-bytes_behind g c out place told has =
-    room_waits c.args.self.now c.args.self.now place c.args.call _ (refl, refl)
-    (waits_so _ _ (λ still first. waits_not (c.in-Waits.ensures.first still first))) told has
+    room_waits c.args.self.now place c.args.call _
+    (λ free. waits_so (follows_at c.args.self.now.calls.rows (Some (c.args.call.n - 1))) (λ first. waits_not (c.in-Waits.ensures.first free first))) told has
 
 pub returns-in-Never-clause-bytes_left : goal.returns-in-Never-clause-bytes_left
 returns-in-Never-clause-bytes_left g c went place told has =
-    let held = ap (λ (core : Contents). holds_back core.rest.temporary) c.self.view_is in
+    let held = ap (λ (core : Contents). holds_back core.rest) c.self.view_is in
+    let reserved = ap (λ (calls : Calls). calls.room) c.settle.ensures.kept ∙ ap (λ (core : Contents). core.calls.room) c.self.view_is in
     let rows = ap (λ (calls : Calls). calls.rows) c.settle.ensures.kept ∙ ap (λ (core : Contents). changed c.args.call (settled_row (fate.Refused 0)) core.calls.rows) c.self.view_is in
-    room_never c.args.self.now _ place c.args.call (settled_row (fate.Refused 0)) _ (λ row. refl) (held, rows)
-    (waits_so _ _ (λ still first. never_not (c.in-Never.ensures.first still first))) told has
+    room_never c.args.self.now _ place c.args.call (settled_row (fate.Refused 0)) _ (λ row. refl) (held, rows) (omega (arith, reserved))
+    (λ free. waits_so (follows_at c.args.self.now.calls.rows (Some (c.args.call.n - 1))) (λ first. never_not (c.in-Never.ensures.first free first))) told has
 
 pub sends_call-requires-clause-wrap : goal.sends_call-requires-clause-wrap
 sends_call-requires-clause-wrap g c = c.in-Goes.ensures.wrap c.in-Goes.wrap refl
+
+pub sends_call-requires-clause-bytes : goal.sends_call-requires-clause-bytes
+sends_call-requires-clause-bytes g c = c.requires.bytes (c.in-Goes.ensures.held c.in-Goes.wrap refl)

@@ -9,7 +9,6 @@ loop-k-init g c = record {
   so_far = λ filling is. so_far_none filling _ _ _ is (c.members-count.ensures.members filling.client.table (kept_calls _ _ _ filling c.self.view_is is));
   few = omega arith;
   numbers = c.requires.numbers;
-  reserved = c.requires.reserved;
   bytes = c.requires.bytes;
   same_room = refl;
   rest = refl;
@@ -20,7 +19,6 @@ loop-k-preserved g c = record {
   so_far = λ filling is. c.says_next-place.ensures.so_far filling c.loop-k.k _ c.loop-k-test.true (c.loop-k.invariant.so_far filling is);
   few = omega (arith, c.says_next-place.ensures.few, c.loop-k.invariant.few);
   numbers = c.says_next-place.ensures.numbers;
-  reserved = c.says_next-place.ensures.reserved;
   bytes = c.says_next-place.ensures.bytes_left;
   same_room = c.says_next-place.ensures.same_room ∙ c.loop-k.invariant.same_room;
   rest = ap (λ (rest : Client). record rest { counters = c.args.self.now.rest.counters }) c.says_next-place.ensures.rest ∙ c.loop-k.invariant.rest;

@@ -1,5 +1,4 @@
 use Rattle.std.proofs.Common.{◌≡◌, ◌+◌, ◌≤◌, length}
-use Rattle.containers.specs.Container.{messages_max}
 use Rattle.client_rules.specs.Filling.{Filling}
 use Rattle.client_core.specs.Draft.{Goes, HasNumbers, SoFar}
 use Rattle.client_core.specs.Owed.{HasRoomFrom}
@@ -10,7 +9,6 @@ invariant-loop-k g l = record {
   so_far : (filling : Filling (Rattle.client_core.specs.contracts.core_client.Core.says_calls.D-type g.row.D)) → Goes l.fn.self l.fn.draft filling → SoFar filling l.self l.draft l.place l.k l.count;
   few : l.place ≤ l.k;
   numbers : HasNumbers l.self l.draft;
-  reserved : messages_max ≤ l.draft.count + l.self.calls.room;
   bytes : HasRoomFrom l.self l.place l.draft;
   same_room : length l.draft.rows + l.draft.room ≡ length l.fn.draft.rows + l.fn.draft.room;
   rest : record l.self.rest { counters = l.fn.self.rest.counters } ≡ l.fn.self.rest;

@@ -1,11 +1,12 @@
-use Rattle.std.proofs.Common.{◌∙◌, ◌-◌, ℕ, Option, Some, ap, sym}
+use Rattle.std.proofs.Common.{◌∙◌, ◌-◌, ℕ, List, Option, Some, ap, subst, sym}
 use Rattle.call_table.specs.Kept.{Contents as Calls}
 use Rattle.call_table.specs.Table.{at}
 use Rattle.client_rules.specs.Client.{calls_of, with_call}
 use Rattle.client_rules.specs.Filling.{number_of, says_drop_of, undropped}
 use Rattle.client_core.specs.Kept.{Contents}
-use Rattle.client_core.specs.Owed.{front_bytes}
-use Rattle.client_core.proofs.FrontLemmas.{front_flagged}
+use Rattle.call_table.specs.declared.row.Row.{Row}
+use Rattle.client_core.specs.Owed.{SameQueue}
+use Rattle.client_core.proofs.FrontLemmas.{same_flagged}
 use Rattle.client_core.proofs.GoesLemmas.{drop_leaves, goes_so, kept_calls, moved, same_goes, undropped_stands}
 use Rattle.client_core.proofs.SoundLemmas.{sound_flagged}
 use Rattle.client_core.proofs.TurnLemmas.{number_is}
@@ -35,8 +36,7 @@ returns-clause-left g c went filling is first =
     drop_leaves c.args.self.now c.args.draft.now filling c.args.call c.in-Some.living.number _ is number c.say.ensures.size (sym c.say.ensures.fits ∙ c.if-not-say.false) first
 
 pub returns-clause-queued : goal.returns-clause-queued
-returns-clause-queued g c held most =
-    let tells = λ (calls : Calls). front_bytes held most calls.rows in
-    ap tells c.set_flags.ensures.kept
-    ∙ (front_flagged held most _ (c.args.call.n - 1) c.self-2.inside.calls.rows
-    ∙ (ap (λ (core : Contents). tells core.calls) c.self-2.view_is ∙ ap tells c.say.ensures.calls))
+returns-clause-queued g c =
+    let before = ap (λ (core : Contents). core.calls.rows) c.self-2.view_is ∙ ap (λ (calls : Calls). calls.rows) c.say.ensures.calls in
+    subst (λ (rows : List Row). SameQueue rows c.set_flags.new.self.rows) before
+    (rw (c.set_flags.ensures.kept) (same_flagged _ (c.args.call.n - 1) c.self-2.inside.calls.rows))

@@ -6,6 +6,7 @@ use Rattle.client_rules.specs.Client.{Client}
 use Rattle.client_core.proofs.DropLemmas.{drops_all, drops_full, drops_none}
 use Rattle.client_core.specs.Kept.{Contents}
 use Rattle.client_core.specs.Owed.{one_bytes}
+use Rattle.client_core.proofs.FrontLemmas.{same_queue, same_then}
 use Rattle.client_core.proofs.GoesLemmas.{kept_calls}
 use Rattle.client_core.proofs.RoomLemmas.{room_left, room_less, takes_both, takes_more, takes_none}
 use Rattle.client_core.proofs.core_client.Core.says_drops.Goals as goal
@@ -18,8 +19,8 @@ loop-k-init g c = record {
   room = refl;
   upto = omega arith;
   bytes = room_less _ _ _ (omega (arith, c.members-count.ensures.kept, ap (λ (core : Contents). length (places_from (is_row_in group.Dropping) 0 core.calls.rows)) c.self.view_is)) c.requires.bytes;
-  takes = takes_none _ _;
-  queued = λ held most. refl;
+  takes = takes_none _ _ _;
+  queued = same_queue _;
 }
 
 pub loop-k-preserved : goal.loop-k-preserved
@@ -31,7 +32,7 @@ loop-k-preserved g c = record {
   upto = omega (arith, c.loop-k-test.true);
   bytes = room_left one_bytes _ _ _ _ (omega (arith, c.loop-k-test.true)) c.loop-k.invariant.bytes c.says_next_drop.ensures.takes;
   takes = takes_both (one_bytes * c.loop-k.k) one_bytes _ _ _ _ (omega arith) c.loop-k.invariant.takes c.says_next_drop.ensures.takes;
-  queued = λ held most. c.says_next_drop.ensures.queued held most ∙ c.loop-k.invariant.queued held most;
+  queued = same_then _ _ _ c.loop-k.invariant.queued c.says_next_drop.ensures.queued;
 }
 
 pub says_next_drop-requires-clause-bytes : goal.says_next_drop-requires-clause-bytes

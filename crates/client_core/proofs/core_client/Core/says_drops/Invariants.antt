@@ -1,7 +1,7 @@
-use Rattle.std.proofs.Common.{◌≡◌, ◌-◌, ◌*◌, ◌≤◌, ℕ, Bool}
+use Rattle.std.proofs.Common.{◌≡◌, ◌-◌, ◌*◌, ◌≤◌}
 use Rattle.client_rules.specs.Filling.{Filling}
 use Rattle.client_core.specs.Draft.{DropsSoFar, Goes, HasNumbers, HasRoomFor, TakesUp}
-use Rattle.client_core.specs.Owed.{front_bytes, one_bytes}
+use Rattle.client_core.specs.Owed.{SameQueue, one_bytes}
 use Rattle.client_core.proofs.core_client.Core.says_drops.Given as goal
 
 abbrev pub invariant-loop-k : goal.invariant-loop-k
@@ -12,6 +12,6 @@ invariant-loop-k g l = record {
   room : l.self.calls.room ≡ l.fn.self.calls.room;
   upto : l.k ≤ l.count;
   bytes : HasRoomFor (one_bytes * (l.count - l.k)) l.draft;
-  takes : TakesUp (one_bytes * l.k) l.fn.draft l.draft;
-  queued : (held : Bool) (most : ℕ) → front_bytes held most l.self.calls.rows ≡ front_bytes held most l.fn.self.calls.rows;
+  takes : TakesUp (one_bytes * l.k) 0 l.fn.draft l.draft;
+  queued : SameQueue l.fn.self.calls.rows l.self.calls.rows;
 }

@@ -16,9 +16,9 @@ returns-else-says_call-clause-so_far g c first k count less so =
     (c.says_call.ensures.goes so.now so.goes) (λ still. c.says_call.ensures.waits c.if-says_call.false still so.now so.goes)
 
 pub says_call-requires-clause-bytes : goal.says_call-requires-clause-bytes
-says_call-requires-clause-bytes g c less =
+says_call-requires-clause-bytes g c free =
     room_of c.args.self.now c.args.place c.in-Some.call c.args.draft.now c.requires.room c.requires.bytes
-    (queued_at _ c.args.self.now c.args.place c.in-Some.call c.self.view_is c.in-Some.ensures.kept) less
+    (queued_at _ c.args.self.now c.args.place c.in-Some.call c.self.view_is c.in-Some.ensures.kept) free
 
 pub returns-then-says_call-clause-bytes_left : goal.returns-then-says_call-clause-bytes_left
 returns-then-says_call-clause-bytes_left g c =

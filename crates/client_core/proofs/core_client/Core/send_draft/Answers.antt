@@ -1,5 +1,4 @@
-use Rattle.std.proofs.Common.{◌∙◌, arith}
-use Rattle.client_core.proofs.OwedLemmas.{sealed_more}
+use Rattle.std.proofs.Common.{◌∙◌}
 use Rattle.client_core.proofs.core_client.Core.send_draft.Goals as goal
 
 pub returns-clause-sent : goal.returns-clause-sent
@@ -10,6 +9,3 @@ returns-clause-sent g c filling is drawn any =
       body = c.finish-filled.ensures.body filling.messages is.messages;
       inner = c.finish-filled.ensures.inner ∙ is.inner;
     }) drawn any
-
-pub send_filled-requires-clause-room : goal.send_filled-requires-clause-room
-send_filled-requires-clause-room g c = omega (arith, c.requires.room, sealed_more _ _ c.finish-filled.ensures.fits)

@@ -1,13 +1,11 @@
-use Rattle.std.proofs.Common.{◌+◌, length, ap, sym, arith}
+use Rattle.std.proofs.Common.{◌∙◌, ◌+◌, length, ap, sym, arith}
 use Rattle.client_rules.specs.Client.{at_moment}
 use Rattle.client_rules.specs.Filling.{fills}
 use Rattle.client_core.specs.Flushed.{setting_of}
 use Rattle.client_core.proofs.FlushLemmas.{begins}
-use Rattle.call_table.specs.Kept.{Contents as Calls}
-use Rattle.client_rules.specs.Client.{Waiting}
-use Rattle.containers.specs.Container.{messages_max}
 use Rattle.client_core.specs.Draft.{Draft}
-use Rattle.client_core.specs.Owed.{asked_count, drops_bytes, front_bytes, holds_back, list_bytes, told_on}
+use Rattle.client_core.specs.Kept.{Contents}
+use Rattle.client_core.specs.Owed.{asked_count, calls_most, needs_binding, owed_bytes, owed_numbers}
 use Rattle.client_core.proofs.OwedLemmas.{sealed_more}
 use Rattle.client_core.proofs.RoomLemmas.{room_less}
 use Rattle.client_core.proofs.core_client.Core.send_fresh.Goals as goal
@@ -20,16 +18,19 @@ returns-clause-sent g c client stands any =
     c.send_draft.ensures.sent (fills setting begun c.args.draw.now) (c.fills.ensures.goes begun goes) (sym (c.fills.ensures.drawn begun goes)) any
 
 pub fills-requires-clause-states : goal.fills-requires-clause-states
-fills-requires-clause-states g c =
-    omega (arith, c.requires.states, ap (λ (waiting : Waiting). asked_count waiting.states c.at.new.self.calls.rows) c.at.ensures.waiting, ap (λ (calls : Calls). asked_count c.args.self.now.rest.waiting.states calls.rows) c.at.ensures.calls)
+fills-requires-clause-states g c = omega (arith, c.requires.states, ap (λ (core : Contents). asked_count core.rest.waiting.states core.calls.rows) c.at.ensures.kept)
 
 pub fills-requires-clause-bytes : goal.fills-requires-clause-bytes
-fills-requires-clause-bytes g c =
-    room_less _ _ _ (omega (arith, ap (λ (waiting : Waiting). told_on waiting c.at.new.self.calls.rows) c.at.ensures.waiting, ap (λ (calls : Calls). list_bytes (length calls.acks) + told_on c.args.self.now.rest.waiting calls.rows + (drops_bytes calls.rows + front_bytes (holds_back c.args.self.now.rest.temporary) messages_max calls.rows)) c.at.ensures.calls, ap (λ temporary. front_bytes (holds_back temporary) messages_max c.at.new.self.calls.rows) c.at.ensures.temporary, ap (λ (calls : Calls). list_bytes (length calls.acks)) c.at.ensures.calls, ap (λ (calls : Calls). told_on c.args.self.now.rest.waiting calls.rows) c.at.ensures.calls)) c.requires.owed
+fills-requires-clause-bytes g c = room_less _ _ _ (omega (arith, ap owed_bytes c.at.ensures.kept)) c.requires.owed
 
-pub send_draft-requires-clause-body_room : goal.send_draft-requires-clause-body_room
-send_draft-requires-clause-body_room g c =
-    omega (arith, c.requires.body, c.fills.ensures.same_room, ap (λ (draft : Draft). length draft.rows) c.requires.draft)
+pub fills-requires-clause-places : goal.fills-requires-clause-places
+fills-requires-clause-places g c = omega (arith, ap owed_numbers c.at.ensures.kept, c.requires.places)
+
+pub fills-requires-clause-reserved : goal.fills-requires-clause-reserved
+fills-requires-clause-reserved g c = omega (arith, ap calls_most c.at.ensures.kept, ap (λ (core : Contents). core.calls.room) c.at.ensures.kept, c.requires.reserved)
+
+pub fills-requires-clause-binding : goal.fills-requires-clause-binding
+fills-requires-clause-binding g c needs = c.requires.binding (sym (ap (λ (core : Contents). needs_binding core.rest) c.at.ensures.kept) ∙ needs)
 
 pub send_draft-requires-clause-room : goal.send_draft-requires-clause-room
 send_draft-requires-clause-room g c =

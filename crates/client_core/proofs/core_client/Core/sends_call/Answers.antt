@@ -1,4 +1,4 @@
-use Rattle.std.proofs.Common.{◌∙◌, ap, refl, sym, arith}
+use Rattle.std.proofs.Common.{◌∙◌, ◌-◌, ap, refl, sym, arith}
 use Rattle.call_table.specs.declared.call.Living.{Living}
 use Rattle.call_table.specs.Kept.{Contents as Calls, sent_row}
 use Rattle.std.specs.Prelude.{option_map}
@@ -36,7 +36,7 @@ pub send-requires-clause-room : goal.send-requires-clause-room
 send-requires-clause-room g c less =
     let same = ap (λ (core : Contents). at c.args.call core.calls.rows) c.self.view_is in
     let within = goes_within (at c.args.call c.args.self.now.calls.rows) c.args.wrap c.body.result.now (sym (ap (option_map (λ row. row.body)) same) ∙ c.body.ensures.kept) c.requires.wrap in
-    room_less _ _ _ within (c.requires.bytes less)
+    room_less _ _ _ within (c.requires.bytes.bytes less)
 
 pub returns-in-Some-clause-bytes_left : goal.returns-in-Some-clause-bytes_left
 returns-in-Some-clause-bytes_left g c went place told has =
@@ -44,6 +44,7 @@ returns-in-Some-clause-bytes_left g c went place told has =
     let same = ap (λ (core : Contents). at c.args.call core.calls.rows) c.self.view_is in
     let within = goes_within (at c.args.call c.args.self.now.calls.rows) c.args.wrap c.body.result.now (sym (ap (option_map (λ row. row.body)) same) ∙ c.body.ensures.kept) c.requires.wrap in
     let kept = ap (λ (calls : Calls). calls.rows) c.send-in-Some.ensures.kept ∙ ap (λ (core : Contents). changed c.args.call (sent_row living c.self.inside.salt) core.calls.rows) c.self.view_is in
-    let held = ap (λ (core : Contents). holds_back core.rest.temporary) c.self.view_is in
-    room_goes c.args.self.now _ place c.args.call (sent_row living c.self.inside.salt) _ _ (λ row. refl) (held, kept) c.in-Some.ensures.count c.in-Some.ensures.kept
+    let held = ap (λ (core : Contents). holds_back core.rest) c.self.view_is in
+    let reserved = ap (λ (calls : Calls). calls.room) c.send-in-Some.ensures.kept ∙ ap (λ (core : Contents). core.calls.room - 1) c.self.view_is in
+    room_goes c.args.self.now _ place c.args.call (sent_row living c.self.inside.salt) _ _ (λ row. refl) (held, kept) (omega (arith, reserved)) c.in-Some.ensures.count c.in-Some.ensures.kept
     (takes_more _ _ _ _ within c.send.ensures.takes) told has

@@ -14,4 +14,8 @@ returns-clause-takes c =
     record {
       same = omega (arith, c.put_sent.ensures.left, c.put_sent.ensures.size, room, rows);
       most = omega (arith, c.put_sent.ensures.size, rows);
+      left = omega (arith, c.push_reserved.ensures.len, c.push_reserved.ensures.capacity, ap (λ (draft : Draft). draft.numbers) c.self.view_is);
     }
+
+pub push_reserved-requires : goal.push_reserved-requires
+push_reserved-requires c = omega (arith, c.requires.place, ap (λ (draft : Draft). draft.numbers) c.self.view_is)

@@ -21,4 +21,5 @@ returns-clause-takes c =
     record {
       same = omega (arith, c.put_said.ensures.left, c.put_said.ensures.size, room, rows);
       most = omega (arith, c.put_said.ensures.size, rows);
+      left = omega (arith, ap (λ (draft : Draft). draft.numbers) same);
     }

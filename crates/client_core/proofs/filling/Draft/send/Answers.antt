@@ -22,4 +22,12 @@ returns-clause-takes c =
     record {
       same = omega (arith, c.put_sent.ensures.left, c.put_sent.ensures.size, room, rows);
       most = omega (arith, c.put_sent.ensures.size, rows);
+      left = omega (arith, c.push_reserved.ensures.len, c.push_reserved.ensures.capacity, ap (λ (draft : Draft). draft.numbers) same);
     }
+
+pub push_reserved-requires : goal.push_reserved-requires
+push_reserved-requires c =
+    let size = wrap_bytes c.args.wrap + length c.args.body.now in
+    let fits : enters size c.args.self.now ≡ true = ap (λ n. enters (n + length c.args.body.now) c.args.self.now) (sym c.wrap_size.ensures) ∙ (sym c.takes.ensures.told ∙ c.if-not-takes.false) in
+    let numbers = ap (λ (draft : Draft). draft.numbers) (c.self.view_is ∙ c.takes.ensures.kept c.if-not-takes.false) in
+    omega (arith, c.requires.place (count_there size c.args.self.now fits), numbers)

@@ -25,3 +25,15 @@ pub returns-in-Open-clause-other : goal.returns-in-Open-clause-other
 returns-in-Open-clause-other g c = λ client stands living none.
     subst (λ (held : Holder). Became held client (at_moment c.args.now client) c.open_takes.result.0 c.open_takes.result.1) (sym c.in-Open.is)
     (c.open_takes.ensures.other client (subst (λ (held : Holder). Stands (kept_of held) client) c.in-Open.is stands) none)
+
+pub returns-in-Opening-clause-keys : goal.returns-in-Opening-clause-keys
+returns-in-Opening-clause-keys g c = rw c.in-Opening.is c.opening_takes.ensures.keys
+
+pub returns-in-Opening-clause-count : goal.returns-in-Opening-clause-count
+returns-in-Opening-clause-count g c = rw c.in-Opening.is c.opening_takes.ensures.count
+
+pub returns-in-Open-clause-keys : goal.returns-in-Open-clause-keys
+returns-in-Open-clause-keys g c = rw c.in-Open.is c.open_takes.ensures.keys
+
+pub returns-in-Open-clause-count : goal.returns-in-Open-clause-count
+returns-in-Open-clause-count g c = rw c.in-Open.is c.open_takes.ensures.count

@@ -5,16 +5,16 @@ use Rattle.client_core.proofs.OwnLemmas.{attached_own, keeps_one, keeps_own}
 use Rattle.client_core.proofs.opening.OpeningClient.attach.Goals as goal
 
 pub invariant_of-self : goal.invariant_of-self
-invariant_of-self c = (rw (c.attach.ensures.learnt) c.self.invariant.0, keeps_one _ _ attached c.self.invariant.1 c.attach.ensures.stands)
+invariant_of-self c = (rw (c.attach.ensures.learnt, c.deref_mut.ensures.value) c.self.invariant.0, keeps_one _ _ attached c.self.invariant.1 (rw c.deref_mut.ensures.value at c.attach.ensures.stands))
 
 pub returns-clause-keys : goal.returns-clause-keys
 returns-clause-keys c =
-    ap (λ (own : Own). own.keys) (keeps_own _ _ attached c.self.invariant.1 c.attach.ensures.stands attached_own ∙ ap own_in c.self.view_is)
+    ap (λ (own : Own). own.keys) (keeps_own _ _ attached c.self.invariant.1 (rw c.deref_mut.ensures.value at c.attach.ensures.stands) attached_own ∙ ap own_in c.self.view_is)
 
 pub returns-clause-session : goal.returns-clause-session
 returns-clause-session c =
-    ap (λ (own : Own). own.session) (keeps_own _ _ attached c.self.invariant.1 c.attach.ensures.stands attached_own ∙ ap own_in c.self.view_is)
+    ap (λ (own : Own). own.session) (keeps_own _ _ attached c.self.invariant.1 (rw c.deref_mut.ensures.value at c.attach.ensures.stands) attached_own ∙ ap own_in c.self.view_is)
 
 pub returns-clause-count : goal.returns-clause-count
 returns-clause-count c =
-    ap (λ (own : Own). own.count) (keeps_own _ _ attached c.self.invariant.1 c.attach.ensures.stands attached_own ∙ ap own_in c.self.view_is)
+    ap (λ (own : Own). own.count) (keeps_own _ _ attached c.self.invariant.1 (rw c.deref_mut.ensures.value at c.attach.ensures.stands) attached_own ∙ ap own_in c.self.view_is)

@@ -1,12 +1,11 @@
 use Rattle.std.proofs.Common.{subst}
 use Rattle.std.specs.Prelude.{OnOk}
 use Rattle.client_rules.specs.Client.{Client}
-use Rattle.client_core.specs.Holding.{kept_of}
+use Rattle.client_core.specs.Holding.{kept_of, wished}
 use Rattle.client_core.specs.Kept.{Stands}
 use Rattle.world_rules.specs.World.{Seat}
 use Rattle.sim_clients.proofs.SeatLemmas.{held_now}
 use Rattle.world_rules.specs.Refusals.{stands_open, nothing_more}
-use Rattle.sim_clients.specs.Held.{wished}
 use Rattle.sim_clients.specs.Told.{TellsRefusal}
 use Rattle.sim_clients.proofs.seat.Seat.wish.Goals as goal
 

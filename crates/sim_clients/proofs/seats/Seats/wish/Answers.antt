@@ -1,5 +1,5 @@
 use Rattle.world_rules.specs.Refusals.{nothing_more, stands_open}
-use Rattle.sim_clients.specs.Held.{wished}
+use Rattle.client_core.specs.Holding.{wished}
 use Rattle.sim_clients.specs.Told.{TellsRefusal}
 use Rattle.sim_clients.proofs.SeatLemmas.{becomes_ok, keys_at, on_ok, told_at}
 use Rattle.sim_clients.proofs.seats.Seats.wish.Goals as goal
