@@ -145,9 +145,6 @@ take_behind [] second = refl
 take_behind (j ∷ js) second = ap (λ ks. j ∷ ks) (take_behind js second)
 
 module _ (history : History) (j : FirstJudgement) (full : 16384 ≤ length history) (above : floor history < j.number) where
-  gone : ℕ
-  gone = length history - 16384
-
   one_more : length (history ++ j ∷ []) - 16384 ≡ length (forgotten history) + 1
   unfolding forgotten
   one_more = omega (arith, length-append history (j ∷ []), length-take (length history - 16384) (ascending history), length-ascending history)

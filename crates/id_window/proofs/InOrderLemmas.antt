@@ -28,9 +28,6 @@ accepted_numbers : {floor : ℕ} {rows : List Row} {accepted : List Accepted} �
 accepted_numbers order = map-id _ ∙ sym order.same_accepted
 
 module _ (floor : ℕ) (rows : List Row) (accepted : List Accepted) (order : IsInOrder floor rows accepted) where
-  pub rows_rise : Rises (map row_number rows)
-  rows_rise = order.rising.1
-
   pub accepted_rise : Rises (map accepted_key accepted)
   accepted_rise = subst Rises (accepted_numbers order) (rises_parts row_number (λ n. n) accepted_number part_of_row rows order.rising.1)
 

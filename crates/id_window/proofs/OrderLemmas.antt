@@ -1,5 +1,5 @@
 -- What is put into ascending lists, and what stays in order.
-use Rattle.std.proofs.Common.{◌≡◌, ◌≢◌, ◌∙◌, ℕ, suc, ◌<◌, ◌≤◌, true, false, ◌&&◌, ltb, eqb, Option, Some, None, List, [], ◌∷◌, ◌++◌, map, length, ap, refl, sym, inl, inr, arith}
+use Rattle.std.proofs.Common.{◌≡◌, ◌≢◌, ◌∙◌, ℕ, suc, ◌<◌, ◌≤◌, true, false, ◌&&◌, ltb, eqb, Option, Some, None, List, [], ◌∷◌, map, length, ap, refl, sym, inl, inr, arith}
 use Rattle.std.specs.List.{list_any, filter_map, cons_option}
 use Rattle.std.proofs.lemmas.Bool.{cases_lt, cases_eq, lt-ltb, le-ltb, ltb-false, eq-eqb, ne_eqb, or_parts}
 use Rattle.id_window.specs.declared.rows.Row.{Row}
@@ -23,10 +23,6 @@ NoneBelow least (first ∷ others) = (least ≤ first) × NoneBelow least others
 pub none_below_above : (least floor : ℕ) (numbers : List ℕ) → least ≤ floor → IsAbove floor numbers → NoneBelow least numbers
 none_below_above least floor [] le above = tt
 none_below_above least floor (n ∷ ns) le above = (omega (arith, above.0), none_below_above least floor ns le above.1)
-
-pub absent_append : (number : ℕ) (xs ys : List ℕ) → Absent number xs → Absent number ys → Absent number (xs ++ ys)
-absent_append number [] ys first second = second
-absent_append number (x ∷ xs) ys first second = (first.0, absent_append number xs ys first.1 second)
 
 -- a number without a mark is in no row
 pub absent_from_mark : (number : ℕ) (rows : List Row) → mark_in number rows ≡ None → Absent number (map row_number rows)

@@ -1,5 +1,5 @@
 -- Places in ascending lists.
-use Rattle.std.proofs.Common.{◌≡◌, ◌≢◌, ℕ, zero, suc, ◌<◌, ◌≤◌, true, false, ltb, eqb, Option, Some, None, List, [], ◌∷◌, map, length, get_or, set, insert, ap, refl, inl, inr, arith, add-one}
+use Rattle.std.proofs.Common.{◌≡◌, ◌≢◌, ℕ, zero, suc, ◌+◌, ◌<◌, ◌≤◌, ◌++◌, true, false, ltb, eqb, Option, Some, None, List, [], ◌∷◌, map, length, get_or, set, insert, ap, refl, inl, inr, arith, add-one}
 use Rattle.std.specs.List.{AllWithin}
 use Rattle.std.specs.List.Sorted.{IsNonDecreasingBy}
 use Rattle.std.proofs.lemmas.Bool.{cases_lt, cases_eq, lt-ltb, le-ltb, eq-eqb, ne_eqb}
@@ -65,6 +65,57 @@ place_later number x xs below = let e : ltb x number ≡ true = lt-ltb x number 
 
 pub place_first : (number x : ℕ) (xs : List ℕ) → number ≤ x → place number (x ∷ xs) ≡ 0
 place_first number x xs above = let e : ltb x number ≡ false = le-ltb x number above in rw e refl
+
+-- a number that is above an entry, and not above the next one, has its place between them
+pub place_between : {X : Type 0} (key : X → ℕ) (number : ℕ) (xs : List X) (k : ℕ) (d e : X) → Rises (map key xs) → suc k < length xs → key (get_or xs k d) < number → number ≤ key (get_or xs (suc k) e) → suc k ≡ place number (map key xs)
+place_between key number [] k d e rises long below above = absurd (omega arith)
+place_between key number (x ∷ []) zero d e rises long below above = absurd (omega arith)
+place_between key number (x ∷ (y ∷ ys)) zero d e rises long below above =
+    let first = place_first number (key y) (map key ys) above in
+    let later = place_later number (key x) (map key (y ∷ ys)) below in
+    omega (arith, first, later)
+place_between key number (x ∷ xs) (suc k) d e rises long below above =
+    let here : key x < key (get_or xs k d) = above_at key (key x) xs rises.0 k d (omega arith) in
+    let rest : suc k ≡ place number (map key xs) = place_between key number xs k d e rises.1 (omega arith) below above in
+    let later = place_later number (key x) (map key xs) (omega arith) in
+    omega (arith, rest, later)
+
+-- ---- the place in two parts
+
+above_front : {X : Type 0} (key : X → ℕ) (floor : ℕ) (xs ys : List X) → IsAbove floor (map key (xs ++ ys)) → IsAbove floor (map key xs)
+above_front key floor [] ys h = tt
+above_front key floor (x ∷ xs) ys h = (h.0, above_front key floor xs ys h.1)
+
+pub rises_front : {X : Type 0} (key : X → ℕ) (xs ys : List X) → Rises (map key (xs ++ ys)) → Rises (map key xs)
+rises_front key [] ys h = tt
+rises_front key (x ∷ xs) ys h = (above_front key (key x) xs ys h.0, rises_front key xs ys h.1)
+
+pub rises_back : {X : Type 0} (key : X → ℕ) (xs ys : List X) → Rises (map key (xs ++ ys)) → Rises (map key ys)
+rises_back key [] ys h = h
+rises_back key (x ∷ xs) ys h = rises_back key xs ys h.1
+
+-- within the first part it is that of the whole
+pub place_front : {X : Type 0} (key : X → ℕ) (number : ℕ) (xs ys : List X) → place number (map key xs) < length xs → place number (map key xs) ≡ place number (map key (xs ++ ys))
+place_front key number [] ys within = absurd (omega (arith, within))
+place_front key number (x ∷ xs) ys within = elim (cases_lt (key x) number) [
+  | inl below ↦
+      let own = place_later number (key x) (map key xs) below in
+      let rest : place number (map key xs) ≡ place number (map key (xs ++ ys)) = place_front key number xs ys (omega (arith, own, within)) in
+      omega (arith, own, rest, place_later number (key x) (map key (xs ++ ys)) below)
+  | inr above ↦ omega (arith, place_first number (key x) (map key xs) above, place_first number (key x) (map key (xs ++ ys)) above)
+]
+
+-- past the first part it is that in the second
+pub place_past : {X : Type 0} (key : X → ℕ) (number : ℕ) (xs ys : List X) → length xs ≤ place number (map key xs)
+    → length xs + place number (map key ys) ≡ place number (map key (xs ++ ys))
+place_past key number [] ys past = omega arith
+place_past key number (x ∷ xs) ys past = elim (cases_lt (key x) number) [
+  | inl below ↦
+      let own = place_later number (key x) (map key xs) below in
+      let rest : length xs + place number (map key ys) ≡ place number (map key (xs ++ ys)) = place_past key number xs ys (omega (arith, own, past)) in
+      omega (arith, own, rest, place_later number (key x) (map key (xs ++ ys)) below)
+  | inr above ↦ absurd (omega (arith, past, place_first number (key x) (map key xs) above))
+]
 
 -- an entry that is put in its place
 pub insert_at_place : {X : Type 0} (key : X → ℕ) (x : X) (xs : List X) → insert xs (place (key x) (map key xs)) x ≡ inserted key x xs

@@ -117,12 +117,6 @@ part_of j one e = elim (cases_Bool (was_accepted j.outcome)) [
 ]
 
 module _ (number seq : ℕ) (mark : Mark) (outcome : Outcome) (same : was_accepted outcome ≡ is_accepted mark) where
-  new_row : Row
-  new_row = record { number = number; mark = mark }
-
-  new_judgement : FirstJudgement
-  new_judgement = record { number = number; seq = seq; outcome = outcome }
-
   pub row_of_new : (marks : Marks) → IsRowOf (given number mark marks) (record { number = number; mark = mark }) (record { number = number; seq = seq; outcome = outcome })
   row_of_new marks = record { number = refl; mark = mark_of-same number mark marks; accepted = sym same }
 

@@ -8,6 +8,7 @@ use Rattle.service_tl.specs.Words.{IsWords}
 use Rattle.temp_keys.specs.declared.binding.Inner.{Inner}
 use Rattle.envelope.specs.Packet.{IsEnvelope, IsPadding, body_max}
 use Rattle.call_table.specs.Table.{Call, Name}
+use Rattle.client_rules.specs.Asking.{body_bytes_max}
 use Rattle.client_rules.specs.Client.{Asked, Binding, Client, States, Temporary}
 use Rattle.client_rules.specs.Events.{Event, Submit, Take}
 use Rattle.client_rules.specs.Flush.{Answer, Nothing, Sends, Spent}
@@ -32,7 +33,7 @@ pub record IsNamed (name : Name) : Type 0 where
 pub record IsCall (call : Call) : Type 0 where
   pub bytes : IsBytes call.body
   pub words : IsWords call.body
-  pub short : length call.body ≤ 262144
+  pub short : length call.body ≤ body_bytes_max
   pub names : AllByRecursion IsNamed call.names
 
 -- the message that asked for a binding may go again

@@ -5,7 +5,6 @@ use Rattle.std.specs.List.{filter, All}
 use Rattle.std.proofs.Math.Seq.{drop-append_seam}
 use Rattle.std.proofs.lemmas.Bool.{cond_both, cond-true, cond-false}
 use Rattle.std.proofs.lemmas.List.Elements.{All-nil, All-cons, All-head, All-tail, All-map, All-append}
-use Rattle.service_tl.specs.declared.lists.Message.{Message}
 use Rattle.id_window.specs.History.{History}
 use Rattle.inbox.specs.Inbox.{was_heard}
 use Rattle.inbox.specs.Refusals.{InEnvelope}
@@ -79,9 +78,6 @@ module _ {S : Type 0} (known : Known S) (setting : Setting S) (envelope : Envelo
   hears-mute : (state : State S) → (session_named (name_in envelope) state.sessions ≡ None → mute.name ≢ name_in envelope) → IsMute S mute Nothing state
       → IsMute S mute Nothing (hears setting envelope state)
   hears-mute state apart m = hears-by-mute state (session_named (name_in envelope) state.sessions) refl apart m
-
-  nothing-few : (said : List Message) → Nothing said → Few 2 mute.first mute.unique said
-  nothing-few said none = inl none
 
   -- a packet for another session
   other-takes : (state : State S) (found : Option Session) → ((session : Session) → found ≡ Some session → mute.name ≢ name_of session) → IsMute S mute Nothing state

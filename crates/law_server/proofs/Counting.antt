@@ -44,14 +44,6 @@ count-more test other (x ∷ xs) more =
       | inr fails ↦ rw fails (omega arith)
     ]
 
-pub count-none : {X : Type 0} (test : X → Bool) (xs : List X) → All (λ x. test x ≡ false) xs → count test xs ≡ 0
-count-none test [] all = refl
-count-none {X} test (x ∷ xs) all =
-    let P : X → Type 0 = λ x. test x ≡ false in
-    let first : test x ≡ false = All-head P x xs all in
-    let rest : count test xs ≡ 0 = count-none test xs (All-tail P x xs all) in
-    rw first (omega arith)
-
 -- ---- tests
 
 -- a test of a number and what it asks
@@ -94,12 +86,6 @@ by-own key session = and_from _ _ (eq-eqb key key refl) (eq-eqb session session 
 pub by-other : (name : Name) (key session : ℕ) → name ≢ record { key = key; session = session } → is_by name key session ≡ false
 by-other name key session apart =
     elim (cases_Bool (is_by name key session)) [ inl is ↦ absurd (apart (by-name name key session is)) | inr fails ↦ fails ]
-
--- what passes any test passes the one that all pass
-pub jobs-any : (name : Name) (test : Test) (jobs : Queue) → jobs_at name test jobs ≤ jobs_at name any jobs
-jobs-any name test jobs =
-    count-more (λ one. job_passes name test one.job) (λ one. job_passes name any one.job) jobs
-    (λ one is. and_from _ _ (and_parts _ _ is).0 refl)
 
 -- ---- jobs that are told of an answer
 

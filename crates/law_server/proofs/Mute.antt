@@ -44,11 +44,6 @@ Opening most first unique said =
 abbrev pub Few : ℕ → ℕ → ℕ → List Message → Type 0
 Few most first unique said = (said ≡ []) ⊎ Opening most first unique said
 
-pub few-more : (most more first unique : ℕ) (said : List Message) → most ≤ more → Few most first unique said → Few more first unique said
-few-more most more first unique said le (inl none) = inl none
-few-more most more first unique said le (inr opening) =
-    inr (opening.0, opening.1, opening.2, opening.3, let few = opening.4 in omega arith, opening.5)
-
 -- ---- which session it is
 
 pub record Mute : Type 0 where

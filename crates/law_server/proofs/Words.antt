@@ -26,7 +26,7 @@ use Rattle.server_rules.specs.Event.{Setting, Speaker, BindingCall, Owed, Entry}
 use Rattle.server_rules.specs.Speaking.{owes_message, says, says_again, says_with_salt, says_it_is_new, needs_salts, dropped, with_reply, answers, answers_in_place, records, message_of, has_said, packed_body_refused, bad_body, encrypted_message_invalid}
 use Rattle.server_rules.specs.Waiting.{gives_up, tells_of, told, outlook}
 use Rattle.server_rules.specs.Calls.{accepts_call, becomes_job, refusal, job_of, drops_by, drops_answer, dropped_running, binds, binds_by, with_binding, bool_true_content}
-use Rattle.server_rules.specs.Rows.{notices, came_again, says_reply, tells_salts, takes_acks, acked_by, tells_states, sends_again, kept_numbered, answers_broken, accepts, acknowledges, future_salt_of, owes}
+use Rattle.server_rules.specs.Rows.{notices, came_again, says_reply, tells_salts, takes_acks, acked_by, tells_states, sends_again, kept_numbered, answers_broken, accepts, future_salt_of, owes}
 use Rattle.server_rules.specs.Answer.{attaches, finishes}
 use Rattle.law_server.specs.Speech.{SaidFor}
 use Rattle.law_server.proofs.Names.{named}
@@ -62,10 +62,6 @@ module _ {S : Type 0} (setting : Setting S) (P : Speaker S → Type 0) (words : 
 
   new-kept : (speaker : Speaker S) → P speaker → P (says_it_is_new setting speaker)
   new-kept speaker p = with_salt-kept (λ salt. NewSessionCreated speaker.session.first speaker.session.unique salt) speaker p
-
-  acknowledges-kept : (numbers : List ℕ) (speaker : Speaker S) → P speaker → P (acknowledges setting numbers speaker)
-  acknowledges-kept [] speaker p = p
-  acknowledges-kept (number ∷ numbers) speaker p = words.says (MsgsAck (number ∷ numbers)) speaker p
 
   notices-kept : (number seq code : ℕ) (speaker : Speaker S) → P speaker → P (notices setting number seq code speaker)
   notices-kept number seq code speaker p =

@@ -127,9 +127,6 @@ renamed P key session one is has =
     let R : ℕ → Type 0 = λ s. P key s in
     subst R (eqb-true one.job.session session parts.1) (subst Q (eqb-true one.job.key key parts.0) has)
 
-abbrev Both : Queue → ℕ → ℕ → Type 0
-Both queue key session = (job_count key session queue ≤ most_jobs) × (job_bytes key session queue ≤ most_job_bytes)
-
 pub accepted-within : {S : Type 0} (job : Job) (speaker : Speaker S) → is_full job speaker ≡ false → AreWithinLimits speaker.jobs → AreWithinLimits (accepted job speaker.jobs)
 accepted-within job speaker room within = λ key session.
     let one : Unfinished = record { job = job; failed = false } in

@@ -3,6 +3,7 @@
 use Rattle.std.specs.Prelude.{◌≡◌, ◌≢◌, ◌≤◌, ◌<◌, ◌^◌, ◌⊎◌, ⊤, ℕ, ◌==◌, ◌&&◌, Bool, true, false, Option, Some, None, List, [], ◌∷◌, ◌++◌, map, reverse}
 use Rattle.std.specs.List.{AllByRecursion, Contains, list_any}
 use Rattle.salt_line.specs.Rows.{Row}
+use Rattle.service_tl.specs.Codes.{salt_code}
 use Rattle.service_tl.specs.declared.lists.Message.{Message}
 use Rattle.inbox.specs.Kinds.{item_told}
 use Rattle.law_server.specs.Lives.{Acceptance, request_of}
@@ -223,7 +224,7 @@ CanSay w session (moves.Item.Notice number code) =
     HasNoticed session number code
     ⊎ ((code ≡ 20) × Contains (w.servers session.unique).forgotten number)
     ⊎ ((code < 2 ^ 32) × IsNoCall w.ups session.number number)
-CanSay w session (moves.Item.WrongSalt number salt) = HasNoticed session number 48 × HasSalt session salt
+CanSay w session (moves.Item.WrongSalt number salt) = HasNoticed session number salt_code × HasSalt session salt
 
 -- ---- what comes up
 

@@ -2,13 +2,9 @@
 use Rattle.std.specs.Prelude.{ℕ, List, ◌≡◌, ◌+◌, ◌++◌, length, take, drop}
 use Rattle.std.proofs.Common.{◌∙◌, sym, ap}
 use Rattle.std.proofs.Math.Seq.{take-append_seam, drop-append_seam}
-use Rattle.std.proofs.lemmas.List.{length-append}
 
 pub first_of : (n : ℕ) (xs ys : List ℕ) → length xs ≡ n → xs ≡ take n (xs ++ ys)
 first_of n xs ys count = sym (take-append_seam xs ys) ∙ ap (λ k. take k (xs ++ ys)) count
 
 pub second_of : (n : ℕ) (xs ys : List ℕ) → length xs ≡ n → ys ≡ drop n (xs ++ ys)
 second_of n xs ys count = sym (drop-append_seam xs ys) ∙ ap (λ k. drop k (xs ++ ys)) count
-
-pub counts_of : (n : ℕ) (xs ys : List ℕ) → length xs ≡ n → n + length ys ≡ length (xs ++ ys)
-counts_of n xs ys count = ap (λ k. k + length ys) (sym count) ∙ sym (length-append xs ys)

@@ -32,6 +32,22 @@ module _ {X : Type 0} (key : X → ℕ) where
       let rest : i ≡ place number (map key xs) = place_from_partition number xs i (omega arith) (λ k d lo hi. below (suc k) d (omega arith) (omega arith)) (λ k d lo hi. above (suc k) d (omega arith) (omega arith)) in
       rw here (omega arith)
 
+  -- a number that is above the last one has its place behind all
+  pub place_behind : (number : ℕ) (xs : List X) (k : ℕ) (d : X) → Rises (map key xs) → length xs ≡ suc k → key (get_or xs k d) < number → suc k ≡ place number (map key xs)
+  place_behind number [] k d rises long below = absurd (omega arith)
+  place_behind number (x ∷ []) zero d rises long below = let e : ltb (key x) number ≡ true = lt-ltb (key x) number below in rw e (omega arith)
+  place_behind number (x ∷ (y ∷ ys)) zero d rises long below = absurd (omega arith)
+  place_behind number (x ∷ xs) (suc k) d rises long below =
+      let here : key x < key (get_or xs k d) = above_at (key x) xs rises.0 k d (omega arith) in
+      let e : ltb (key x) number ≡ true = lt-ltb (key x) number (omega arith) in
+      let rest : suc k ≡ place number (map key xs) = place_behind number xs k d rises.1 (omega arith) below in
+      rw e (omega arith)
+
+  -- one that isn't above the first has its place in front
+  pub place_in_front : (number : ℕ) (xs : List X) (d : X) → 0 < length xs → number ≤ key (get_or xs 0 d) → 0 ≡ place number (map key xs)
+  place_in_front number [] d some above = refl
+  place_in_front number (x ∷ xs) d some above = let e : ltb (key x) number ≡ false = le-ltb (key x) number above in rw e refl
+
   -- an entry that is put in its place
   pub insert_at_place : (x : X) (xs : List X) → insert xs (place (key x) (map key xs)) x ≡ inserted key x xs
   insert_at_place x [] = refl

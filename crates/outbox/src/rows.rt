@@ -47,12 +47,23 @@ impl Keyed for Answered {
     }
 }
 
-/// How many entries have a key below this one, in an ascending order. Found by halving.
+/// How many entries have a key below this one, in an ascending order. Most keys are new, and above all, or the oldest, so the
+/// last and the first entry are looked at; else it is found by halving.
 pub(crate) fn place_of<T: Keyed>(entries: &VecDeque<T>, key: u64) -> usize
     requires { Rises (map T.key_of entries.now.items) }
     ensures place { result ≡ place key (map T.key_of entries.now.items) }
     ensures within { result ≤ length entries.now.items }
 {
+    let count = entries.len();
+    if count == 0 {
+        return 0;
+    }
+    if entries[count - 1].key() < key {
+        return count;
+    }
+    if key <= entries[0].key() {
+        return 0;
+    }
     entries.partition_point(|entry| entry.key() < key)
 }
 

@@ -1,5 +1,5 @@
 -- The room that a packet takes is enough for what it brings.
-use Rattle.std.proofs.Common.{◌≡◌, ◌∙◌, ◌≤◌, ℕ, ◌+◌, ◌*◌, Bool, true, false, List, [], ◌∷◌, ap, sym, subst, refl, length, arith}
+use Rattle.std.proofs.Common.{◌≡◌, ◌∙◌, ◌≤◌, ℕ, ◌+◌, ◌*◌, Bool, List, ap, subst, length, arith}
 use Rattle.std.specs.Prelude.{◌/◌, if◌then◌else◌, sum_by, IfOk, Result, Ok, Err}
 use Rattle.std.proofs.lemmas.Bool.{cond_both}
 use Rattle.std.proofs.lemmas.List.Sums.{sum_by-le-sum_by}
@@ -74,35 +74,6 @@ numbers-fit count limit messages bytes result few few_jobs few_messages short is
     let most = ap (λ (batch : Batch). packets_most batch.messages batch.bytes) is_room.packets in
     let fewer = packets-few messages bytes few_messages short in
     omega (arith, most, fewer, few, few_jobs)) is
-
--- ---- it stays
-
-room-later : (standing after : SessionState) (room : PacketRoom) → outbox_of after ≡ outbox_of standing → IsPacketRoom standing room → IsPacketRoom after room
-room-later standing after room same is =
-    let called = calls_by room.dues.items in
-    let C : Contents → Type 0 = λ outbox. sum_by (called_weight called (λ kept. 1)) outbox.replies ≤ room.called.count in
-    let B : Contents → Type 0 = λ outbox. sum_by (called_weight called (λ kept. length kept.body)) outbox.replies ≤ room.called.bytes in
-    record {
-      few = is.few;
-      no_acks = is.no_acks;
-      acks = is.acks;
-      called = record { count = subst C (sym same) is.called.count; bytes = subst B (sym same) is.called.bytes; few = is.called.few; short = is.called.short };
-      speech = is.speech;
-      entries = is.entries;
-      numbers = is.numbers;
-    }
-
--- where the session keeps the same replies, and there is as much room for jobs and bindings
-pub can-take-later : (standing after : SessionState) (jobs more bindings others : ℕ) (room : PacketRoom) → outbox_of after ≡ outbox_of standing
-    → jobs ≤ more → bindings ≤ others → CanTake standing jobs bindings room → CanTake after more others room
-can-take-later standing after jobs more bindings others room same enough_jobs enough_bindings is =
-    let replies = ap (λ (outbox : Contents). outbox.room) same in
-    record {
-      taken = room-later standing after room same is.taken;
-      replies = omega (arith, replies, is.replies);
-      jobs = omega (arith, enough_jobs, is.jobs);
-      bindings = omega (arith, enough_bindings, is.bindings);
-    }
 
 -- ---- as the event goes on
 

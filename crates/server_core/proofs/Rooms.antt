@@ -1,18 +1,10 @@
 -- Room that was taken for replies and is given back.
-use Rattle.std.proofs.Common.{◌≡◌, ◌∙◌, ℕ, List, Result, max, ap, sym, subst, arith}
-use Rattle.std.specs.Prelude.{IfOk, min}
-use Rattle.auth_keys.specs.declared.ring.RingKey.{RingKey}
-use Rattle.envelope.specs.Packet.{Lock}
-use Rattle.octets.specs.declared.memory.Memory.{Memory}
-use Rattle.waits.specs.Jobs.{Queue}
-use Rattle.server_rules.specs.Event.{Speaker}
+use Rattle.std.proofs.Common.{◌≡◌, ◌∙◌, ℕ, max, ap, arith}
+use Rattle.std.specs.Prelude.{min}
 use Rattle.server_session.specs.declared.session.SessionState.{SessionState}
 use Rattle.server_session.specs.SessionState.{Stands, replies_left}
 use Rattle.server_rules.specs.Server.{Session}
 use Rattle.server_session.specs.Rooms.{with_replies_left}
-use Rattle.server_core.specs.declared.effects.Effects.{Effects}
-use Rattle.server_core.specs.Speech.{Begins}
-use Rattle.server_core.specs.Working.{Ends}
 
 min-max : (room more : ℕ) → min (max room more) room ≡ room
 min-max room more = omega arith
@@ -40,12 +32,3 @@ stands-with room now standing session is =
       outbox = is.outbox;
       counters = is.counters;
     }
-
--- what holds of a session at its place holds of it where it was lent
-pub ends-as : {S : Type 0} (lock : Lock) (keys : List RingKey) (now : ℕ) (before start after last : SessionState) (queue : Queue) (first draw : S) (speaker said : Speaker S)
-    (result : Result Effects Memory) → start ≡ before → last ≡ after
-    → (Begins now before first speaker → IfOk result (λ effects. Ends lock keys now after queue draw effects said))
-    → Begins now start first speaker → IfOk result (λ effects. Ends lock keys now last queue draw effects said)
-ends-as {S} lock keys now before start after last queue first draw speaker said result same same_after gives begins =
-    subst (λ (one : SessionState). IfOk result (λ effects. Ends lock keys now one queue draw effects said)) (sym same_after)
-    (gives (subst (λ (one : SessionState). Begins now one first speaker) same begins))

@@ -51,10 +51,6 @@ pub record AreFew (unfinished sent entered : ℕ) : Type 0 where
 abbrev pub GivesFew : {D : Type 0} → Server → Answer D → Type 0
 GivesFew server answer = AreFew (length server.jobs) (length answer.packets) (length answer.entries)
 
--- what it gives is so few
-abbrev pub IsFew : ℕ → Effects → Type 0
-IsFew unfinished effects = AreFew unfinished (length effects.out.outs) (length effects.entries.entries)
-
 -- After an event the desk stands for the server that the definitions say, its draw is theirs, and so is what the event gives.
 pub record Does {D : Type 0} (StandsFor : Server → Type 0) (lock : Lock) (keys : List RingKey) (draw : D) (effects : Effects) (answer : Answer D) : Type 0 where
   pub stands : StandsFor answer.server

@@ -8,7 +8,6 @@ use Rattle.envelope.specs.Packet.{Lock}
 use Rattle.inbox.specs.declared.judged.Judgement.{Judgement}
 use Rattle.inbox.specs.declared.outer.Outer.{Outer}
 use Rattle.inbox.specs.Judging.{judgements}
-use Rattle.server_output.specs.Outs.{AreSent}
 use Rattle.waits.specs.Jobs.{Queue}
 use Rattle.server_rules.specs.Answer.{message_in, messages_judged, name_in}
 use Rattle.server_rules.specs.Event.{Envelope, Setting}
@@ -16,7 +15,6 @@ use Rattle.server_rules.specs.Server.{Binding, Name, Session, remembered, sessio
 use Rattle.law_server.specs.Lives.{history_by, way_of}
 use Rattle.server_session.specs.declared.session.SessionState.{SessionState}
 use Rattle.server_session.specs.Names.{name_kept}
-use Rattle.server_session.specs.SessionState.{Stands}
 use Rattle.server_core.specs.declared.desk.Heard.{Heard}
 use Rattle.server_core.specs.declared.desk.Heard.TheVariants.{Judged, NotOpened}
 use Rattle.server_core.specs.declared.desk.Reply.{Reply}
@@ -26,7 +24,6 @@ use Rattle.server_core.specs.Among.{Among, IsAlone, IsOrderlySpeaker, remembers_
 use Rattle.server_core.specs.Failures.{blocked_of}
 use Rattle.server_core.specs.Hearing.{IsHeard}
 use Rattle.server_core.specs.Server.{CanSpeak, Kept}
-use Rattle.server_core.specs.Sessions.{AreKept}
 use Rattle.server_core.specs.SettlingAll.{AreDue, are_numbered}
 
 -- ---- what a server hears
@@ -95,17 +92,6 @@ pub record Fits {S : Type 0} (setting : Setting S) (envelope : Envelope) (judged
   pub few : blocked_of (name_in envelope) among.speaker.jobs + length judged ≤ room.limit
 
 -- ---- what the event leaves
-
--- What is kept of the others, of the session that spoke, the jobs, the bindings and the draw, and what the event gives, are
--- those of this session among the others.
-pub record EndsAmong {S : Type 0} (lock : Lock) (keys : List RingKey) (now : ℕ) (kept : List SessionState) (standing : SessionState) (queue : Queue) (bound : List Binding) (draw : S) (effects : Effects) (among : Among S) : Type 0 where
-  pub others : AreKept now kept among.others
-  pub stands : Stands now standing among.speaker.session
-  pub jobs : queue ≡ among.speaker.jobs
-  pub bindings : bound ≡ among.speaker.bindings
-  pub drawn : draw ≡ among.speaker.draw
-  pub sent : AreSent lock keys among.speaker.sent effects.out.outs
-  pub entered : effects.entries.entries ≡ among.speaker.entries
 
 -- the server then, by its parts
 abbrev pub kept_so : {S : Type 0} → S → ℕ → List SessionState → Queue → List Binding → Kept S

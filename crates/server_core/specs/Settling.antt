@@ -10,6 +10,7 @@ use Rattle.server_session.specs.declared.session.SessionState.{SessionState}
 use Rattle.server_dispatch.specs.declared.turn.Turn.{Turn}
 use Rattle.server_dispatch.specs.Owed.{open_with}
 use Rattle.server_dispatch.specs.Speaks.{Speaks}
+use Rattle.server_core.specs.declared.among_others.AmongOthers.{AmongOthers}
 use Rattle.server_core.specs.Among.{Among, IsAlone, IsInOrder, row_among, speaks_among, tells_all}
 use Rattle.server_core.specs.Sessions.{AreKept}
 
@@ -18,6 +19,11 @@ use Rattle.server_core.specs.Sessions.{AreKept}
 pub record SpeaksAmong {S : Type 0} (now : ℕ) (kept : List SessionState) (standing : SessionState) (turn : Turn) (queue : Queue) (bound : List Binding) (draw : S) (among : Among S) : Type 0 where
   pub others : AreKept now kept among.others
   pub speaks : Speaks now standing turn queue bound draw among.speaker
+
+-- what is kept of them as one value
+abbrev pub IsAmong : {S : Type 0} → ℕ → AmongOthers → S → Among S → Type 0
+IsAmong now kept draw among =
+    SpeaksAmong now kept.others kept.speaking.standing kept.speaking.turn kept.speaking.jobs.jobs kept.speaking.bindings.bindings draw among
 
 -- The session is alone of its name and in order, with the number of this verdict open where it was accepted, and these.
 pub record IsSettling {S : Type 0} (name : Name) (past : History) (number : ℕ) (verdict : Verdict) (opened : List ℕ) (among : Among S) : Type 0 where

@@ -16,26 +16,25 @@ use server_session::SessionState;
 use server_session::laws::sessions_stand_later;
 use waits::Jobs;
 
-/// The session that spoke is the one heard last, or is lost with its jobs where it has no room for the numbers of a further
-/// event. Takes no memory.
+/// All sessions, where the one that spoke is the one heard last, or is lost with its jobs where it has no room for the numbers
+/// of a further event. Takes no memory.
 pub(crate) fn goes_back<D: Draw>(
-    sessions: &mut Sessions,
     jobs: &mut Jobs,
     others: Others,
     standing: SessionState,
-)
+) -> Sessions
     requires apart { All (λ other. name_kept other ≢ name_kept standing) others }
     ensures kept { (now : ℕ) (among : Among D) → AreKept now others among.others → Stands now standing among.speaker.session
-        → AreKept now sessions.new (left_where (is_spent among.speaker.session) among).sessions }
+        → AreKept now result (left_where (is_spent among.speaker.session) among).sessions }
     ensures left { (now : ℕ) (among : Among D) → Stands now standing among.speaker.session → jobs.old.jobs ≡ among.speaker.jobs
         → jobs.new.jobs ≡ (left_where (is_spent among.speaker.session) among).jobs }
-    ensures sessions { sessions.new ≡ with_last_where (nat_lt (numbers_left standing) room_min) standing others }
+    ensures sessions { result ≡ with_last_where (nat_lt (numbers_left standing) room_min) standing others }
     ensures same_job_room { jobs.new.room ≡ jobs.old.room }
 {
     sessions_stand_later();
     let is_spent = standing.numbers_left() < ROOM_MIN;
     forgets(jobs, is_spent, standing.key(), standing.number());
-    *sessions = back(is_spent, others, standing);
+    back(is_spent, others, standing)
 }
 
 // The jobs of the session of this name are lost where this is so.

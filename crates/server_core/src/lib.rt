@@ -3,6 +3,7 @@
 //! the definitions (`Stands`), and each event makes it stand for what the definitions say of that event.
 #![tactic(auto)]
 
+mod among_others;
 mod attaching;
 mod desk;
 mod desks;

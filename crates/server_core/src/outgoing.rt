@@ -18,7 +18,7 @@ use crate::tick_turns::TickTurns;
 use draws::Draw;
 use envelope::Seal;
 use msg_ids::Moment;
-use server_output::{OutgoingMessages, Outs, Packets};
+use server_output::{Delivery, Outs};
 use server_session::laws::sessions_stand_later;
 
 impl Sessions {
@@ -27,34 +27,33 @@ impl Sessions {
         &mut self,
         place: usize,
         now: Moment,
-        owing: &OutgoingMessages,
-        packets: Packets,
+        delivery: Delivery<'_>,
         seal: &S,
         draw: &mut D,
         outs: &mut Outs,
     )
         requires place { place < length self.old }
-        requires few { owing.now.places_taken ≤ packets.messages }
-        requires short { owing.now.bytes_taken ≤ packets.bytes }
+        requires few { delivery.owing.now.places_taken ≤ delivery.packets.messages }
+        requires short { delivery.owing.now.bytes_taken ≤ delivery.packets.bytes }
         requires key { (d : SessionState) → IsSome (entry_of (key_of (slice_index_or self.old place d)) (S.keys seal.now)) }
-        requires numbers { (d : SessionState) → packets_most packets.messages packets.bytes ≤ numbers_left (slice_index_or self.old place d) }
-        requires outs { packets_most packets.messages packets.bytes ≤ outs.old.room }
+        requires numbers { (d : SessionState) → packets_most delivery.packets.messages delivery.packets.bytes ≤ numbers_left (slice_index_or self.old place d) }
+        requires outs { packets_most delivery.packets.messages delivery.packets.bytes ≤ outs.old.room }
         requires at { (d : SessionState) → IsAt now (slice_index_or self.old place d) }
         ensures others { (d : SessionState) → self.new ≡ slice_set self.old place (slice_index_or self.new place d) }
-        ensures stands { (d : SessionState) (keys : Keys) (speaker : Speaker D) → Says now (slice_index_or self.old place d) owing.now draw.old speaker
-            → Stands now (slice_index_or self.new place d) (sends (setting_of now D.step keys) owing.now.messages speaker).session }
-        ensures drawn { (d : SessionState) (keys : Keys) (speaker : Speaker D) → Says now (slice_index_or self.old place d) owing.now draw.old speaker
-            → draw.new ≡ (sends (setting_of now D.step keys) owing.now.messages speaker).draw }
-        ensures sent { (d : SessionState) (keys : Keys) (speaker : Speaker D) → Says now (slice_index_or self.old place d) owing.now draw.old speaker
+        ensures stands { (d : SessionState) (keys : Keys) (speaker : Speaker D) → Says now (slice_index_or self.old place d) delivery.entry.owing.now draw.old speaker
+            → Stands now (slice_index_or self.new place d) (sends (setting_of now D.step keys) delivery.entry.owing.now.messages speaker).session }
+        ensures drawn { (d : SessionState) (keys : Keys) (speaker : Speaker D) → Says now (slice_index_or self.old place d) delivery.entry.owing.now draw.old speaker
+            → draw.new ≡ (sends (setting_of now D.step keys) delivery.entry.owing.now.messages speaker).draw }
+        ensures sent { (d : SessionState) (keys : Keys) (speaker : Speaker D) → Says now (slice_index_or self.old place d) delivery.entry.owing.now draw.old speaker
             → AreSent S.lock (S.keys seal.now) speaker.sent outs.old.outs
-            → AreSent S.lock (S.keys seal.now) (sends (setting_of now D.step keys) owing.now.messages speaker).sent outs.new.outs }
-        ensures room_lasts { outs.old.room ≤ outs.new.room + packets_most packets.messages packets.bytes }
+            → AreSent S.lock (S.keys seal.now) (sends (setting_of now D.step keys) delivery.entry.owing.now.messages speaker).sent outs.new.outs }
+        ensures room_lasts { outs.old.room ≤ outs.new.room + packets_most delivery.entry.packets.messages delivery.entry.packets.bytes }
         ensures same_name { (d : SessionState) → name_kept (slice_index_or self.new place d) ≡ name_kept (slice_index_or self.old place d) }
         ensures at { (d : SessionState) → IsAt now (slice_index_or self.new place d) }
         ensures apart { AreApart self.old }
     {
         let standing = &mut self.list[place];
-        standing.sends(now, owing, packets, seal, draw, outs);
+        standing.sends(now, delivery, seal, draw, outs);
     }
 }
 
@@ -84,7 +83,11 @@ impl TickTurns {
         sessions_stand_later();
         let voice = &mut self.list[place];
         if let Some(packets) = voice.packets.take() {
-            sessions.sends(place, now, &voice.turn.owing, packets, seal, draw, outs);
+            let delivery = Delivery {
+                owing: &voice.turn.owing,
+                packets,
+            };
+            sessions.sends(place, now, delivery, seal, draw, outs);
         }
     }
 

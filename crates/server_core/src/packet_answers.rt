@@ -5,132 +5,126 @@ ghost use Rattle.server_dispatch.specs.Rings.{AreOf};
 ghost use Rattle.server_rules.specs.Event.{Envelope};
 ghost use Rattle.server_session.specs.Names.{name_kept};
 ghost use Rattle.server_session.specs.Says.{Keys, setting_of};
-ghost use Rattle.server_session.specs.SessionState.{IsAt};
-ghost use Rattle.server_core.specs.Among.{Among, ended_among, speaks_among, takes_among};
+ghost use Rattle.server_core.specs.Among.{Among, ended_among, takes_among};
 ghost use Rattle.server_core.specs.Effects.{Gives};
-ghost use Rattle.server_core.specs.One.{says_its_own};
-ghost use Rattle.server_core.specs.Others.{AreLeft};
-ghost use Rattle.server_core.specs.Packets.{AreBeside, EndsAmong, Fits, HasJudged, kept_so};
+ghost use Rattle.server_core.specs.Packets.{AreBeside, Fits, HasJudged, kept_so};
 ghost use Rattle.server_core.specs.Room.{CanTake};
 ghost use Rattle.server_core.specs.Server.{CanSpeak, IsSound};
 ghost use Rattle.server_core.specs.SettlingAll.{are_numbered};
 
+use crate::among_others::AmongOthers;
 use crate::effects::Effects;
 use crate::leaving::goes_back;
 use crate::others::Others;
 use crate::room::PacketRoom;
 use crate::sessions::Sessions;
-use crate::settling_all::settles_all;
 use crate::speech::Speech;
 use draws::Draw;
 use envelope::Seal;
-use inbox::Judgement;
+use inbox::{Judged, Judgement};
 use law_server::laws::{
     packets_are_judged, rows_keep_order, sessions_speak_for_themselves, speech_keeps_order,
     taken_jobs_are_open,
 };
 use msg_ids::Moment;
-use server_dispatch::{Bindings, Due, Turn, acks_in};
+use server_dispatch::{Bindings, Due, Speaking, Turn, acks_in};
 use server_session::SessionState;
+use std::alloc::Global;
+use std::mem;
 use waits::Jobs;
 
-/// The session of a packet, which has judged it among the others, answers it, and is the one heard last, or is lost where it
-/// has no room for a further event. Takes no memory.
-pub(crate) fn answers_packet<S: Seal, D: Draw>(
-    sessions: &mut Sessions,
-    jobs: &mut Jobs,
-    bindings: &mut Bindings,
-    mut others: Others,
-    mut standing: SessionState,
-    now: Moment,
-    judged: &[Judgement],
-    room: PacketRoom,
-    seal: &S,
-    draw: &mut D,
-) -> Effects
-    requires speaking { CanSpeak (S.keys seal.now) now standing }
-    requires room { CanTake standing jobs.old.room bindings.old.room room }
-    requires beside { AreBeside (S.keys seal.now) now (name_kept standing) others }
-    ensures given { (keys : Keys) (envelope : Envelope) (among : Among D) → AreOf (S.keys seal.now) keys
-        → HasJudged (setting_of now D.step keys) envelope others standing jobs.old.jobs bindings.old.bindings draw.old judged.now among
-        → Fits (setting_of now D.step keys) envelope judged.now room among
-        → Gives S.lock (S.keys seal.now) (kept_so seal.now now sessions.new jobs.new.jobs bindings.new.bindings) draw.new result
-        (ended_among (setting_of now D.step keys) (takes_among (setting_of now D.step keys) envelope among)) }
-    ensures sound { IsSound (S.keys seal.now) now sessions.new }
-{
-    let effects = takes(
-        &mut standing,
-        &mut others,
-        jobs,
-        bindings,
-        now,
-        judged,
-        room,
-        seal,
-        draw,
-    );
-    goes_back::<D>(sessions, jobs, others, standing);
-    effects
+/// A packet that a session of a server has judged.
+#[derive(Drop)]
+pub(crate) struct JudgedPacket {
+    /// The other sessions of the server, with a place for the one that judged it.
+    pub(crate) others: Others,
+    /// The session that judged it.
+    pub(crate) standing: SessionState,
+    /// What it judged, in order.
+    pub(crate) judged: Judged,
+    /// The room for all that it says and records.
+    pub(crate) room: PacketRoom,
 }
 
-// The session of a packet, which has judged it, owes what it owes to it, and sends that.
-fn takes<S: Seal, D: Draw>(
-    standing: &mut SessionState,
-    others: &mut Others,
-    jobs: &mut Jobs,
-    bindings: &mut Bindings,
-    now: Moment,
-    judged: &[Judgement],
-    room: PacketRoom,
-    seal: &S,
-    draw: &mut D,
-) -> Effects
-    requires speaking { CanSpeak (S.keys seal.now) now standing.old }
-    requires room { CanTake standing.old jobs.old.room bindings.old.room room }
-    ensures ends { (keys : Keys) (envelope : Envelope) (among : Among D) → AreOf (S.keys seal.now) keys
-        → HasJudged (setting_of now D.step keys) envelope others.old standing.old jobs.old.jobs bindings.old.bindings draw.old judged.now among
-        → Fits (setting_of now D.step keys) envelope judged.now room among
-        → EndsAmong S.lock (S.keys seal.now) now others.new standing.new jobs.new.jobs bindings.new.bindings draw.new result
-        (speaks_among (says_its_own (setting_of now D.step keys)) (takes_among (setting_of now D.step keys) envelope among)) }
-    ensures same_name { name_kept standing.new ≡ name_kept standing.old }
-    ensures at { IsAt now standing.new }
-    ensures left { AreLeft others.old others.new }
-{
-    packets_are_judged();
-    rows_keep_order::<D>();
-    sessions_speak_for_themselves::<D>();
-    speech_keeps_order::<D>();
-    taken_jobs_are_open::<D>();
-    let PacketRoom {
-        dues,
-        acks,
-        limit,
-        called: _,
-        speech,
-        entries,
-    } = room;
-    let Speech {
-        owing,
-        packets,
-        outs,
-    } = speech;
-    let mut turn = Turn { owing, entries };
-    let mut acks = acks;
-    let judged = in_room(judged, dues.as_slice());
-    acks_in(judged, &mut acks);
-    turn.opens(now, standing, draw, acks.as_slice());
-    let ring = seal.ring();
-    settles_all(
-        &mut turn, now, standing, others, jobs, bindings, ring, draw, judged, dues, limit,
-    );
-    let Turn { owing, entries } = turn;
-    let speech = Speech {
-        owing,
-        packets,
-        outs,
-    };
-    let out = speech.sends(standing, now, seal, draw);
-    Effects { out, entries }
+impl JudgedPacket {
+    /// The session of the packet answers it, and is the one heard last, or is lost where it has no room for a further event: all
+    /// sessions then, and what goes out and is entered. Takes no memory.
+    pub(crate) fn answers<S: Seal, D: Draw>(
+        self,
+        alloc: Global,
+        jobs: &mut Jobs,
+        bindings: &mut Bindings,
+        now: Moment,
+        seal: &S,
+        draw: &mut D,
+    ) -> (Sessions, Effects)
+        requires speaking { CanSpeak (S.keys seal.now) now self.standing }
+        requires room { CanTake self.standing jobs.old.room bindings.old.room self.room }
+        requires beside { AreBeside (S.keys seal.now) now (name_kept self.standing) self.others }
+        ensures given { (keys : Keys) (envelope : Envelope) (among : Among D) → AreOf (S.keys seal.now) keys
+            → HasJudged (setting_of now D.step keys) envelope self.others self.standing jobs.old.jobs bindings.old.bindings draw.old self.judged among
+            → Fits (setting_of now D.step keys) envelope self.judged self.room among
+            → Gives S.lock (S.keys seal.now) (kept_so seal.now now result.0 jobs.new.jobs bindings.new.bindings) draw.new result.1
+            (ended_among (setting_of now D.step keys) (takes_among (setting_of now D.step keys) envelope among)) }
+        ensures sound { IsSound (S.keys seal.now) now result.0 }
+    {
+        packets_are_judged();
+        rows_keep_order::<D>();
+        sessions_speak_for_themselves::<D>();
+        speech_keeps_order::<D>();
+        taken_jobs_are_open::<D>();
+        let JudgedPacket {
+            others,
+            mut standing,
+            judged,
+            room,
+        } = self;
+        let PacketRoom {
+            dues,
+            mut acks,
+            limit,
+            called: _,
+            speech,
+            entries,
+        } = room;
+        let Speech {
+            owing,
+            packets,
+            outs,
+        } = speech;
+        let judged = in_room(judged.as_slice(), dues.as_slice());
+        acks_in(judged, &mut acks);
+        let mut turn = Turn { owing, entries };
+        turn.opens(now, &mut standing, draw, acks.as_slice());
+        let lent_jobs = mem::replace(jobs, Jobs::new(alloc));
+        let lent_bindings = mem::replace(bindings, Bindings::new(alloc));
+        let speaking = Speaking {
+            turn,
+            standing,
+            jobs: lent_jobs,
+            bindings: lent_bindings,
+        };
+        let mut among = AmongOthers { others, speaking };
+        among.settles_all(now, seal.ring(), draw, judged, dues, limit);
+        let AmongOthers { others, speaking } = among;
+        let Speaking {
+            turn,
+            mut standing,
+            jobs: left_jobs,
+            bindings: left_bindings,
+        } = speaking;
+        *jobs = left_jobs;
+        *bindings = left_bindings;
+        let Turn { owing, entries } = turn;
+        let speech = Speech {
+            owing,
+            packets,
+            outs,
+        };
+        let out = speech.sends(&mut standing, now, seal, draw);
+        let sessions = goes_back::<D>(jobs, others, standing);
+        (sessions, Effects { out, entries })
+    }
 }
 
 // The judgements, where each is on the message whose needs stand at its place: the room that was taken is that for these. It is

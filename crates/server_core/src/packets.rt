@@ -27,9 +27,10 @@ use crate::laws::{
     acceptable_messages_are_accepted, acknowledgements_go_out, one_session_stays_alone,
     one_session_stays_in_order, one_session_takes,
 };
-use crate::packet_answers::answers_packet;
+use crate::packet_answers::JudgedPacket;
 use crate::room::judges_in_room;
 use crate::server::Server;
+use crate::session_name::SessionName;
 use draws::Draw;
 use envelope::{Dir, Envelope, Opened, Refusal, Seal};
 use inbox::Outer;
@@ -83,10 +84,29 @@ impl<S: Seal> Server<S> {
         lawful_messages_are_taken::<D>();
         acknowledgements_go_out::<D>();
         let moment = self.moment.later(now);
-        match self.seal.unseal(alloc, moment, Dir::Up, packet) {
-            Opened::Envelope(envelope) => self.hears(alloc, moment, envelope, draw),
-            Opened::Refused(refusal) => self.refuses(alloc, moment, refusal),
-            Opened::Memory => Err(Memory),
+        let envelope = match self.seal.unseal(alloc, moment, Dir::Up, packet) {
+            Opened::Envelope(envelope) => envelope,
+            Opened::Refused(refusal) => return self.refuses(alloc, moment, refusal),
+            Opened::Memory => return Err(Memory),
+        };
+        let Envelope {
+            key,
+            salt,
+            session,
+            number,
+            seq,
+            body,
+        } = envelope;
+        let outer = Outer {
+            number,
+            seq,
+            salt,
+            body,
+        };
+        let name = SessionName { key, session };
+        match self.sessions.place(key, session) {
+            None => self.takes_new(alloc, moment, name, &outer, draw),
+            Some(place) => self.takes_at(alloc, moment, name, place, &outer, draw),
         }
     }
 
@@ -107,85 +127,22 @@ impl<S: Seal> Server<S> {
         })
     }
 
-    // A packet opens to this envelope, under a key that is there.
-    fn hears<D: Draw>(
-        &mut self,
-        alloc: Global,
-        moment: Moment,
-        envelope: Envelope,
-        draw: &mut D,
-    ) -> Result<Reply, Memory>
-        requires later { self.old.moment ≤ moment }
-        requires key { IsSome (entry_of envelope.key (S.keys self.old.seal)) }
-        ensures heard { IfOk result (λ reply. reply.heard ≡ Judged envelope.key envelope.session) }
-        ensures given { (keys : Keys) (server : Rules) → AreOf (S.keys self.old.seal) keys → Stands self.old server → AreOrdered server.sessions server.jobs
-            → IfOk result (λ reply. Gives S.lock (S.keys self.old.seal) self.new draw.new (effects_in reply)
-            (after_packet (setting_of moment D.step keys) (brought_in envelope) server draw.old)) }
-        ensures unchanged_on_memory { OnErr result (self.new ≡ self.old) }
-        ensures same_seal { self.new.seal ≡ self.old.seal }
-    {
-        let Envelope {
-            key,
-            salt,
-            session,
-            number,
-            seq,
-            body,
-        } = envelope;
-        let outer = Outer {
-            number,
-            seq,
-            salt,
-            body,
-        };
-        let Effects { out, entries } = self.takes(alloc, moment, key, session, &outer, draw)?;
-        Ok(Reply {
-            heard: Heard::Judged { key, session },
-            out,
-            entries,
-        })
-    }
-
-    // The session of this name takes what an envelope brought.
-    fn takes<D: Draw>(
-        &mut self,
-        alloc: Global,
-        moment: Moment,
-        key: u64,
-        session: u64,
-        outer: &Outer,
-        draw: &mut D,
-    ) -> Result<Effects, Memory>
-        requires later { self.old.moment ≤ moment }
-        requires key { IsSome (entry_of key (S.keys self.old.seal)) }
-        ensures given { (keys : Keys) (server : Rules) → AreOf (S.keys self.old.seal) keys → Stands self.old server → AreOrdered server.sessions server.jobs
-            → IfOk result (λ effects. Gives S.lock (S.keys self.old.seal) self.new draw.new effects
-            (after_packet (setting_of moment D.step keys) (brought key session outer.now) server draw.old)) }
-        ensures unchanged_on_memory { OnErr result (self.new ≡ self.old) }
-        ensures same_seal { self.new.seal ≡ self.old.seal }
-    {
-        match self.sessions.place(key, session) {
-            None => self.takes_new(alloc, moment, key, session, outer, draw),
-            Some(place) => self.takes_at(alloc, moment, key, session, place, outer, draw),
-        }
-    }
-
     // The session of this name, which is at this place, takes what an envelope brought.
     fn takes_at<D: Draw>(
         &mut self,
         alloc: Global,
         moment: Moment,
-        key: u64,
-        session: u64,
+        name: SessionName,
         place: usize,
         outer: &Outer,
         draw: &mut D,
-    ) -> Result<Effects, Memory>
+    ) -> Result<Reply, Memory>
         requires later { self.old.moment ≤ moment }
-        requires place { position (is_kept_as (record { key = key; session = session })) self.old.sessions ≡ Some place }
+        requires place { position (is_kept_as (record { key = name.key; session = name.session })) self.old.sessions ≡ Some place }
+        ensures heard { IfOk result (λ reply. reply.heard ≡ Judged name.key name.session) }
         ensures given { (keys : Keys) (server : Rules) → AreOf (S.keys self.old.seal) keys → Stands self.old server → AreOrdered server.sessions server.jobs
-            → IfOk result (λ effects. Gives S.lock (S.keys self.old.seal) self.new draw.new effects
-            (after_packet (setting_of moment D.step keys) (brought key session outer.now) server draw.old)) }
+            → IfOk result (λ reply. Gives S.lock (S.keys self.old.seal) self.new draw.new (effects_in reply)
+            (after_packet (setting_of moment D.step keys) (brought name.key name.session outer.now) server draw.old)) }
         ensures unchanged_on_memory { OnErr result (self.new ≡ self.old) }
         ensures same_seal { self.new.seal ≡ self.old.seal }
     {
@@ -204,19 +161,30 @@ impl<S: Seal> Server<S> {
         ) {
             Ok(both) => {
                 let (room, judged) = both;
-                self.moment = moment;
-                Ok(answers_packet(
-                    &mut self.sessions,
-                    &mut self.jobs,
-                    &mut self.bindings,
+                let packet = JudgedPacket {
                     others,
                     standing,
-                    moment,
-                    judged.as_slice(),
+                    judged,
                     room,
+                };
+                let (sessions, effects) = packet.answers(
+                    alloc,
+                    &mut self.jobs,
+                    &mut self.bindings,
+                    moment,
                     &self.seal,
                     draw,
-                ))
+                );
+                self.moment = moment;
+                self.sessions = sessions;
+                Ok(Reply {
+                    heard: Heard::Judged {
+                        key: name.key,
+                        session: name.session,
+                    },
+                    out: effects.out,
+                    entries: effects.entries,
+                })
             }
             Err(memory) => {
                 self.sessions = others.with_it_at(place, standing);
@@ -230,17 +198,17 @@ impl<S: Seal> Server<S> {
         &mut self,
         alloc: Global,
         moment: Moment,
-        key: u64,
-        session: u64,
+        name: SessionName,
         outer: &Outer,
         draw: &mut D,
-    ) -> Result<Effects, Memory>
+    ) -> Result<Reply, Memory>
         requires later { self.old.moment ≤ moment }
-        requires key { IsSome (entry_of key (S.keys self.old.seal)) }
-        requires none { position (is_kept_as (record { key = key; session = session })) self.old.sessions ≡ None }
+        requires key { IsSome (entry_of name.key (S.keys self.old.seal)) }
+        requires none { position (is_kept_as (record { key = name.key; session = name.session })) self.old.sessions ≡ None }
+        ensures heard { IfOk result (λ reply. reply.heard ≡ Judged name.key name.session) }
         ensures given { (keys : Keys) (server : Rules) → AreOf (S.keys self.old.seal) keys → Stands self.old server → AreOrdered server.sessions server.jobs
-            → IfOk result (λ effects. Gives S.lock (S.keys self.old.seal) self.new draw.new effects
-            (after_packet (setting_of moment D.step keys) (brought key session outer.now) server draw.old)) }
+            → IfOk result (λ reply. Gives S.lock (S.keys self.old.seal) self.new draw.new (effects_in reply)
+            (after_packet (setting_of moment D.step keys) (brought name.key name.session outer.now) server draw.old)) }
         ensures unchanged_on_memory { OnErr result (self.new ≡ self.old) }
         ensures same_seal { self.new.seal ≡ self.old.seal }
     {
@@ -248,7 +216,14 @@ impl<S: Seal> Server<S> {
         one_session_takes::<D>();
         one_session_stays_alone::<D>();
         one_session_stays_in_order::<D>();
-        let mut standing = SessionState::new(alloc, moment, key, session, outer.number, draw)?;
+        let mut standing = SessionState::new(
+            alloc,
+            moment,
+            name.key,
+            name.session,
+            outer.number,
+            draw,
+        )?;
         let both = judges_in_room(
             alloc,
             moment,
@@ -259,18 +234,29 @@ impl<S: Seal> Server<S> {
         )?;
         let (room, judged) = both;
         let others = makes_place::<D>(&mut self.sessions, &mut self.jobs, alloc)?;
-        self.moment = moment;
-        Ok(answers_packet(
-            &mut self.sessions,
-            &mut self.jobs,
-            &mut self.bindings,
+        let packet = JudgedPacket {
             others,
             standing,
-            moment,
-            judged.as_slice(),
+            judged,
             room,
+        };
+        let (sessions, effects) = packet.answers(
+            alloc,
+            &mut self.jobs,
+            &mut self.bindings,
+            moment,
             &self.seal,
             draw,
-        ))
+        );
+        self.moment = moment;
+        self.sessions = sessions;
+        Ok(Reply {
+            heard: Heard::Judged {
+                key: name.key,
+                session: name.session,
+            },
+            out: effects.out,
+            entries: effects.entries,
+        })
     }
 }

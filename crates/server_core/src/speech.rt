@@ -14,7 +14,7 @@ use draws::Draw;
 use envelope::Seal;
 use msg_ids::Moment;
 use octets::Memory;
-use server_output::{OutgoingMessages, Outs, Packets, packets_most};
+use server_output::{Delivery, OutgoingMessages, Outs, Packets, packets_most};
 use server_session::SessionState;
 use std::alloc::Global;
 
@@ -76,7 +76,11 @@ impl Speech {
             mut outs,
         } = self;
         if owing.len() > 0 {
-            standing.sends(now, &owing, packets, seal, draw, &mut outs);
+            let delivery = Delivery {
+                owing: &owing,
+                packets,
+            };
+            standing.sends(now, delivery, seal, draw, &mut outs);
         }
         outs
     }

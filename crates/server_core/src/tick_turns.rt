@@ -62,6 +62,13 @@ impl Cause {
     }
 }
 
+/// A job that was taken out, and the answer to it in place of a run.
+#[derive(Drop)]
+struct GivenUp {
+    job: Job,
+    short: Short,
+}
+
 /// What a session owes in a tick, and the room for its packets.
 #[derive(Drop)]
 pub(crate) struct TickTurn {
@@ -134,8 +141,7 @@ impl TickTurn {
         place: usize,
         jobs: &mut Jobs,
         now: Moment,
-        job: Job,
-        short: Short,
+        given_up: GivenUp,
     )
         requires place { place < length sessions.old }
         requires room { (d : SessionState) → HasRoom 1 (result_bytes short_bytes_max) 1 (slice_index_or sessions.old place d) (turn_with self.old entries.old) }
@@ -144,14 +150,15 @@ impl TickTurn {
         ensures spends { (d : SessionState) → Spends now 1 (result_bytes short_bytes_max) 1 (slice_index_or sessions.old place d) (turn_with self.old entries.old)
             (slice_index_or sessions.new place d) (turn_with self.new entries.new) }
         ensures replies_last { (d : SessionState) → replies_left (slice_index_or sessions.new place d) + 1 ≡ replies_left (slice_index_or sessions.old place d) }
-        ensures speaks { (d : SessionState) (keys : Keys) (bindings : List Binding) (draw : D) (speaker : Speaker D) → IsUnanswered speaker.session.replies job.number
+        ensures speaks { (d : SessionState) (keys : Keys) (bindings : List Binding) (draw : D) (speaker : Speaker D) → IsUnanswered speaker.session.replies given_up.job.number
             → Speaks now (slice_index_or sessions.old place d) (turn_with self.old entries.old) jobs.old.jobs bindings draw speaker
-            → Speaks now (slice_index_or sessions.new place d) (turn_with self.new entries.new) jobs.new.jobs bindings draw (gives_up (setting_of now D.step keys) (content_of short) job speaker) }
+            → Speaks now (slice_index_or sessions.new place d) (turn_with self.new entries.new) jobs.new.jobs bindings draw (gives_up (setting_of now D.step keys) (content_of given_up.short) given_up.job speaker) }
         ensures same_packets { self.new.packets ≡ self.old.packets }
         ensures same_left { self.new.left ≡ self.old.left }
         ensures still_spoke { self.new.spoke ≡ self.old.spoke }
         ensures apart { AreApart sessions.old }
     {
+        let GivenUp { job, short } = given_up;
         mem::swap(&mut self.turn.entries, entries);
         sessions.gives_up::<D>(place, &mut self.turn, jobs, now, job, short);
         mem::swap(&mut self.turn.entries, entries);
@@ -190,7 +197,8 @@ impl TickTurns {
         if voice.left > 0 {
             voice.left -= 1;
             voice.begins(&mut self.order, place);
-            voice.gives_up::<D>(&mut self.entries, sessions, place, jobs, now, job, short);
+            let given_up = GivenUp { job, short };
+            voice.gives_up::<D>(&mut self.entries, sessions, place, jobs, now, given_up);
         }
     }
 

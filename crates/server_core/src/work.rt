@@ -1,10 +1,11 @@
 //! A server runs a ready job.
 
-ghost use Rattle.std.specs.Prelude.{◌≡◌, ◌<◌, ◌≤◌, [], Some, length, max, slice_index_or, slice_set, IfOk, OnErr, OnOk, ℕ};
+ghost use Rattle.std.specs.Prelude.{◌≡◌, ◌<◌, ◌≤◌, ◌+◌, [], Some, length, max, slice_index_or, slice_set, IfOk, OnErr, OnOk, ℕ};
 ghost use Rattle.std.specs.List.{position};
 ghost use Rattle.id_window.specs.History.{History};
 ghost use Rattle.waits.specs.declared.job.Job.{Job};
 ghost use Rattle.waits.specs.Jobs.{Queue, ready_count, ready_job, without_ready};
+ghost use Rattle.waits.specs.Limits.{most_jobs};
 ghost use Rattle.server_rules.specs.Server.{Name, Server as Rules};
 ghost use Rattle.server_rules.specs.Event.{Speaker};
 ghost use Rattle.server_rules.specs.Answer.{after_work};
@@ -13,10 +14,11 @@ ghost use Rattle.regs_service.specs.Served.{reply_bytes_max};
 ghost use Rattle.server_session.specs.declared.session.SessionState.{SessionState as One};
 ghost use Rattle.server_session.specs.Names.{name_kept};
 ghost use Rattle.server_session.specs.Says.{Keys, setting_of};
-ghost use Rattle.server_session.specs.SessionState.{IsAt};
+ghost use Rattle.server_session.specs.Rooms.{with_replies_left};
+ghost use Rattle.server_session.specs.SessionState.{IsAt, replies_left};
 ghost use Rattle.server_core.specs.Sessions.{AreApart, is_kept_as};
 ghost use Rattle.server_core.specs.Server.{CanSpeak, Stands};
-ghost use Rattle.server_core.specs.Desks.{IsBetweenEvents, IsFew, IsShortRunAt};
+ghost use Rattle.server_core.specs.Desks.{IsShortRunAt};
 ghost use Rattle.server_core.specs.Effects.{Gives};
 ghost use Rattle.server_core.specs.Speech.{Begins};
 ghost use Rattle.server_core.specs.Working.{CanWork, Ends, IsRunning, worked};
@@ -35,45 +37,77 @@ use server_session::laws::sessions_stand_later;
 use std::alloc::Global;
 use waits::Jobs;
 
+/// A ready job, and the session that it is of.
+#[derive(Clone, Copy)]
+struct ReadyJob {
+    /// Its place among the ready ones.
+    k: usize,
+    /// The identifier of the key of its session.
+    key: u64,
+    /// The session's number.
+    session: u64,
+}
+
 impl Sessions {
-    /// The ready job `k` runs in room that was taken for it; it is one of the session at this place.
+    /// Takes the memory that the session at this place needs for the answers by this work, and then the service runs the request
+    /// of its job.
     ///
     /// # Errors
     ///
     /// `Memory`, and then all is as it was.
-    pub(crate) fn runs<S: Seal, V: Service, D: Draw>(
+    fn serves<V: Service>(
         &mut self,
         alloc: Global,
         place: usize,
-        jobs: &mut Jobs,
-        k: usize,
-        now: Moment,
-        work: Work,
+        jobs: &Jobs,
+        work: &Work,
         service: &mut V,
-        seal: &S,
-        draw: &mut D,
-    ) -> Result<Effects, Memory>
+    ) -> Result<(), Memory>
         requires place { place < length self.old }
-        requires ready { k < ready_count jobs.old.jobs }
-        requires speaking { (d : One) → CanSpeak (S.keys seal.now) now (slice_index_or self.old place d) }
-        requires room { CanWork work.reply work.limit work }
+        requires ready { work.now.k < ready_count jobs.now.jobs }
+        requires few { work.now.limit ≤ most_jobs }
         ensures others { (d : One) → self.new ≡ slice_set self.old place (slice_index_or self.new place d) }
-        ensures same_name { (d : One) → name_kept (slice_index_or self.new place d) ≡ name_kept (slice_index_or self.old place d) }
-        ensures at { (d : One) → OnOk result (IsAt now (slice_index_or self.new place d)) }
-        ensures ends { (d : One) (keys : Keys) (name : Name) (others : Name → Queue) (past : History) (job : Job) (speaker : Speaker D)
-            → Begins now (slice_index_or self.old place d) draw.old speaker
-            → jobs.old.jobs ≡ speaker.jobs → speaker.entries ≡ [] → ready_job k jobs.old.jobs ≡ Some job
-            → IsRunning name others past job work.limit (record speaker { jobs = without_ready k speaker.jobs })
-            → IfOk result (λ effects. Ends S.lock (S.keys seal.now) now (slice_index_or self.new place d) jobs.new.jobs draw.new effects
-            (worked (setting_of now D.step keys) job work.reply (record speaker { jobs = without_ready k speaker.jobs }))) }
-        ensures served { (job : Job) → ready_job k jobs.old.jobs ≡ Some job → OnOk result (service.new ≡ (V.step service.old job.request).1) }
+        ensures kept { (d : One) → OnOk result (slice_index_or self.new place d
+            ≡ with_replies_left (max (replies_left (slice_index_or self.old place d)) (work.now.limit + 1)) (slice_index_or self.old place d)) }
+        ensures served { (job : Job) → ready_job work.now.k jobs.now.jobs ≡ Some job → OnOk result (service.new ≡ (V.step service.old job.request).1) }
         ensures same_sessions { OnErr result (self.new ≡ self.old) }
-        ensures same_jobs { OnErr result (jobs.new ≡ jobs.old) }
         ensures same_service { OnErr result (service.new ≡ service.old) }
         ensures apart { AreApart self.old }
     {
         let standing = &mut self.list[place];
-        working::runs(alloc, standing, jobs, k, now, work, service, seal, draw)
+        let request = ready_at(jobs, work.k).request.as_slice();
+        working::serves(alloc, standing, work.limit + 1, service, request)
+    }
+
+    /// The ready job of this work, which has run, is taken out, and what the session at this place says then goes out. Takes no
+    /// memory.
+    fn works<S: Seal, D: Draw>(
+        &mut self,
+        place: usize,
+        jobs: &mut Jobs,
+        now: Moment,
+        work: Work,
+        seal: &S,
+        draw: &mut D,
+    ) -> Effects
+        requires place { place < length self.old }
+        requires ready { work.k < ready_count jobs.old.jobs }
+        requires speaking { (d : One) → CanSpeak (S.keys seal.now) now (slice_index_or self.old place d) }
+        requires room { CanWork work.reply work.limit work }
+        requires replies { (d : One) → work.limit + 1 ≤ replies_left (slice_index_or self.old place d) }
+        ensures others { (d : One) → self.new ≡ slice_set self.old place (slice_index_or self.new place d) }
+        ensures same_name { (d : One) → name_kept (slice_index_or self.new place d) ≡ name_kept (slice_index_or self.old place d) }
+        ensures at { (d : One) → IsAt now (slice_index_or self.new place d) }
+        ensures ends { (d : One) (keys : Keys) (name : Name) (others : Name → Queue) (past : History) (job : Job) (speaker : Speaker D)
+            → Begins now (slice_index_or self.old place d) draw.old speaker
+            → jobs.old.jobs ≡ speaker.jobs → speaker.entries ≡ [] → ready_job work.k jobs.old.jobs ≡ Some job
+            → IsRunning name others past job work.limit (record speaker { jobs = without_ready work.k speaker.jobs })
+            → Ends S.lock (S.keys seal.now) now (slice_index_or self.new place d) jobs.new.jobs draw.new result
+            (worked (setting_of now D.step keys) job work.reply (record speaker { jobs = without_ready work.k speaker.jobs })) }
+        ensures apart { AreApart self.old }
+    {
+        let standing = &mut self.list[place];
+        working::works(standing, jobs, now, work, seal, draw)
     }
 }
 
@@ -109,34 +143,36 @@ impl<S: Seal> Server<S> {
         sessions_stand_later();
         let moment = self.moment.later(now);
         let job = ready_at(&self.jobs, k);
-        let (key, session) = (job.key, job.session);
-        match self.sessions.place(key, session) {
+        let job = ReadyJob {
+            k,
+            key: job.key,
+            session: job.session,
+        };
+        match self.sessions.place(job.key, job.session) {
             None => self.passes(alloc, moment),
-            Some(place) => self.work_at(alloc, k, key, session, place, service, moment, draw),
+            Some(place) => self.work_at(alloc, job, place, service, moment, draw),
         }
     }
 
-    // Runs the ready job of this place, which is one of the session of this name; that one is at the place given.
+    // Runs this ready job, whose session is at this place.
     fn work_at<V: Service, D: Draw>(
         &mut self,
         alloc: Global,
-        k: usize,
-        key: u64,
-        session: u64,
+        job: ReadyJob,
         place: usize,
         service: &mut V,
         moment: Moment,
         draw: &mut D,
     ) -> Result<Effects, Memory>
         requires later { self.old.moment ≤ moment }
-        requires ready { k < ready_count self.old.jobs }
-        requires whose { (job : Job) → ready_job k self.old.jobs ≡ Some job → (job.key ≡ key) × (job.session ≡ session) }
-        requires place { position (is_kept_as (record { key = key; session = session })) self.old.sessions ≡ Some place }
+        requires ready { job.k < ready_count self.old.jobs }
+        requires whose { (one : Job) → ready_job job.k self.old.jobs ≡ Some one → (one.key ≡ job.key) × (one.session ≡ job.session) }
+        requires place { position (is_kept_as (record { key = job.key; session = job.session })) self.old.sessions ≡ Some place }
         ensures given { (keys : Keys) (server : Rules) → Stands self.old server → AreOrdered server.sessions server.jobs
             → IfOk result (λ effects. Gives S.lock (S.keys self.old.seal) self.new draw.new effects
-            (after_work (setting_of moment D.step keys) k V.step service.old server draw.old).0) }
-        ensures served { (job : Job) → ready_job k self.old.jobs ≡ Some job → OnOk result (service.new ≡ (V.step service.old job.request).1) }
-        ensures short { (job : Job) → ready_job k self.old.jobs ≡ Some job → OnOk result (length (V.step service.old job.request).0 ≤ reply_bytes_max) }
+            (after_work (setting_of moment D.step keys) job.k V.step service.old server draw.old).0) }
+        ensures served { (one : Job) → ready_job job.k self.old.jobs ≡ Some one → OnOk result (service.new ≡ (V.step service.old one.request).1) }
+        ensures short { (one : Job) → ready_job job.k self.old.jobs ≡ Some one → OnOk result (length (V.step service.old one.request).0 ≤ reply_bytes_max) }
         ensures unchanged_on_memory { OnErr result (self.new ≡ self.old) }
         ensures same_service_on_memory { OnErr result (service.new ≡ service.old) }
         ensures same_seal { self.new.seal ≡ self.old.seal }
@@ -144,20 +180,20 @@ impl<S: Seal> Server<S> {
         sessions_stand_later();
         sessions_speak_for_themselves::<D>();
         taken_jobs_are_open::<D>();
-        let work = Work::at(alloc, &self.jobs, k, service)?;
-        let effects = self.sessions.runs(
-            alloc,
-            place,
-            &mut self.jobs,
-            k,
-            moment,
-            work,
-            service,
-            &self.seal,
-            draw,
-        )?;
+        let work = Work::at(alloc, &self.jobs, job.k, service)?;
+        self.sessions
+            .serves(alloc, place, &self.jobs, &work, service)?;
+        let effects = self
+            .sessions
+            .works(place, &mut self.jobs, moment, work, &self.seal, draw);
         self.moment = moment;
-        lose_spent(&mut self.sessions, &mut self.jobs, key, session, place);
+        lose_spent(
+            &mut self.sessions,
+            &mut self.jobs,
+            job.key,
+            job.session,
+            place,
+        );
         Ok(effects)
     }
 }

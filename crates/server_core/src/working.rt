@@ -39,6 +39,8 @@ const RESULT_BYTES: usize = 12;
 /// What the service will reply to a ready job, and the room for all that its session says then.
 #[derive(Drop)]
 pub(crate) struct Work {
+    /// The place of the job among the ready ones.
+    pub(crate) k: usize,
     /// The reply, to be sent and kept.
     pub(crate) reply: Bytes,
     /// The same reply, to be recorded.
@@ -50,25 +52,29 @@ pub(crate) struct Work {
 }
 
 impl Work {
-    /// What the service will reply to this request, and room for what follows where so many jobs of the session aren't ready.
+    /// What the service will reply to this request of the ready job of this place, and room for what follows where so many
+    /// jobs of the session aren't ready.
     ///
     /// # Errors
     ///
     /// `Memory`.
     fn new<V: Service>(
         alloc: Global,
+        k: usize,
         request: &[u8],
         service: &V,
         limit: usize,
     ) -> Result<Work, Memory>
         requires few { limit ≤ most_jobs }
-        ensures { IfOk result (CanWork (V.step service.now request.now).0 limit) }
+        ensures room { IfOk result (CanWork (V.step service.now request.now).0 limit) }
+        ensures place { IfOk result (λ work. work.k ≡ k) }
     {
         let foreseen = service.foresee(alloc, request)?;
         let bytes = RESULT_BYTES + foreseen.as_slice().len() + limit * SHORT_RESULT_BYTES;
         let reply = Bytes::copy_from_slice(alloc, foreseen.as_slice())?;
         let entered = reply.clone()?;
         Ok(Work {
+            k,
             reply,
             entered,
             limit,
@@ -90,13 +96,14 @@ impl Work {
     ) -> Result<Work, Memory>
         requires ready { k < ready_count jobs.now.jobs }
         ensures room { IfOk result (λ work. CanWork work.reply work.limit work) }
+        ensures place { IfOk result (λ work. work.k ≡ k) }
         ensures reply { (job : One) → ready_job k jobs.now.jobs ≡ Some job → IfOk result (λ work. work.reply ≡ (V.step service.now job.request).0) }
         ensures limit { (job : One) → ready_job k jobs.now.jobs ≡ Some job
             → IfOk result (λ work. work.limit ≡ blocked_count_of job.key job.session jobs.now.jobs) }
     {
         let job = ready_at(jobs, k);
         let limit = jobs.blocked(job.key, job.session);
-        Work::new(alloc, job.request.as_slice(), service, limit)
+        Work::new(alloc, k, job.request.as_slice(), service, limit)
     }
 }
 
@@ -114,7 +121,7 @@ pub(crate) fn ready_at(jobs: &Jobs, k: usize) -> &Job
 /// # Errors
 ///
 /// `Memory`.
-fn serves<V: Service>(
+pub(crate) fn serves<V: Service>(
     alloc: Global,
     standing: &mut SessionState,
     answers: usize,
@@ -160,27 +167,30 @@ fn answers_run<D: Draw>(
     answers_failed::<D>(turn, now, standing, jobs, limit);
 }
 
-/// A job that was taken out has run: what its session says then goes out. Takes no memory.
+/// The ready job of this work, which has run, is taken out, and what its session says then goes out. Takes no memory.
 pub(crate) fn works<S: Seal, D: Draw>(
     standing: &mut SessionState,
     jobs: &mut Jobs,
     now: Moment,
-    job: Job,
     work: Work,
     seal: &S,
     draw: &mut D,
 ) -> Effects
+    requires ready { work.k < ready_count jobs.old.jobs }
     requires speaking { CanSpeak (S.keys seal.now) now standing.old }
     requires room { CanWork work.reply work.limit work }
     requires replies { work.limit + 1 ≤ replies_left standing.old }
-    ensures ends { (keys : Keys) (name : Name) (others : Name → Queue) (past : History) (speaker : Speaker D) → Begins now standing.old draw.old speaker
-        → jobs.old.jobs ≡ speaker.jobs → speaker.entries ≡ [] → IsRunning name others past job work.limit speaker
-        → Ends S.lock (S.keys seal.now) now standing.new jobs.new.jobs draw.new result (worked (setting_of now D.step keys) job work.reply speaker) }
+    ensures ends { (keys : Keys) (name : Name) (others : Name → Queue) (past : History) (job : One) (speaker : Speaker D) → Begins now standing.old draw.old speaker
+        → jobs.old.jobs ≡ speaker.jobs → speaker.entries ≡ [] → ready_job work.k jobs.old.jobs ≡ Some job
+        → IsRunning name others past job work.limit (record speaker { jobs = without_ready work.k speaker.jobs })
+        → Ends S.lock (S.keys seal.now) now standing.new jobs.new.jobs draw.new result
+        (worked (setting_of now D.step keys) job work.reply (record speaker { jobs = without_ready work.k speaker.jobs })) }
     ensures same_name { name_kept standing.new ≡ name_kept standing.old }
     ensures at { IsAt now standing.new }
 {
     sessions_speak_for_themselves::<D>();
     let Work {
+        k,
         reply,
         entered,
         limit,
@@ -193,6 +203,7 @@ pub(crate) fn works<S: Seal, D: Draw>(
         outs,
     } = speech;
     let mut turn = Turn { owing, entries };
+    let job = jobs.take(k);
     let run = Run {
         job,
         reply,
@@ -207,47 +218,4 @@ pub(crate) fn works<S: Seal, D: Draw>(
     };
     let out = speech.sends(standing, now, seal, draw);
     Effects { out, entries }
-}
-
-/// The ready job of this place runs, in room that was taken for it: the service runs it, it is taken out, and what its
-/// session says then goes out.
-///
-/// # Errors
-///
-/// `Memory`, and then all is as it was.
-pub(crate) fn runs<S: Seal, V: Service, D: Draw>(
-    alloc: Global,
-    standing: &mut SessionState,
-    jobs: &mut Jobs,
-    k: usize,
-    now: Moment,
-    work: Work,
-    service: &mut V,
-    seal: &S,
-    draw: &mut D,
-) -> Result<Effects, Memory>
-    requires ready { k < ready_count jobs.old.jobs }
-    requires speaking { CanSpeak (S.keys seal.now) now standing.old }
-    requires room { CanWork work.reply work.limit work }
-    ensures ends { (keys : Keys) (name : Name) (others : Name → Queue) (past : History) (job : One) (speaker : Speaker D)
-        → Begins now standing.old draw.old speaker → jobs.old.jobs ≡ speaker.jobs → speaker.entries ≡ [] → ready_job k jobs.old.jobs ≡ Some job
-        → IsRunning name others past job work.limit (record speaker { jobs = without_ready k speaker.jobs })
-        → IfOk result (λ effects. Ends S.lock (S.keys seal.now) now standing.new jobs.new.jobs draw.new effects
-        (worked (setting_of now D.step keys) job work.reply (record speaker { jobs = without_ready k speaker.jobs }))) }
-    ensures served { (job : One) → ready_job k jobs.old.jobs ≡ Some job → OnOk result (service.new ≡ (V.step service.old job.request).1) }
-    ensures same_name { OnOk result (name_kept standing.new ≡ name_kept standing.old) }
-    ensures at { OnOk result (IsAt now standing.new) }
-    ensures same_standing { OnErr result (standing.new ≡ standing.old) }
-    ensures same_jobs { OnErr result (jobs.new ≡ jobs.old) }
-    ensures same_service { OnErr result (service.new ≡ service.old) }
-{
-    serves(
-        alloc,
-        standing,
-        work.limit + 1,
-        service,
-        ready_at(jobs, k).request.as_slice(),
-    )?;
-    let job = jobs.take(k);
-    Ok(works(standing, jobs, now, job, work, seal, draw))
 }

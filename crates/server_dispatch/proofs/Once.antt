@@ -1,10 +1,9 @@
 -- Numbers of a list, each once.
-use Rattle.std.proofs.Common.{◌≡◌, ◌∙◌, ◌+◌, ◌<◌, ℕ, Bool, true, false, List, [], ◌∷◌, ◌++◌, ap, sym, refl, inl, inr, take, length, get_or, map, fold, append-nil, append_assoc}
-use Rattle.std.specs.Prelude.{not, ◌==◌, if◌then◌else◌}
-use Rattle.std.specs.List.{filter, list_any}
-use Rattle.std.proofs.lemmas.Bool.{cases_Bool, eqb-true, eq-eqb, false≢true}
+use Rattle.std.proofs.Common.{◌≡◌, ◌∙◌, ◌+◌, ◌<◌, ◌≤◌, ℕ, Bool, true, false, List, [], ◌∷◌, ◌++◌, if◌then◌else◌, ap, sym, refl, inl, inr, arith, take, length, get_or, map, fold, append-nil, append_assoc}
+use Rattle.std.specs.Prelude.{not, ◌==◌}
+use Rattle.std.specs.List.{AllByRecursion, filter, list_any}
+use Rattle.std.proofs.lemmas.Bool.{cases_Bool, eqb-true, eq-eqb, ne_eqb, false≢true}
 use Rattle.std.proofs.lemmas.List.{take_more}
-use Rattle.std.proofs.lemmas.Grind.{fold-append}
 use Rattle.std.proofs.lemmas.List.Elements.{filter-append}
 use Rattle.inbox.specs.declared.judged.Judgement.{Judgement}
 use Rattle.server_rules.specs.Calls.{each_once}
@@ -107,8 +106,9 @@ pub noted-are : (judged : List Judgement) → fold noted [] judged ≡ acks_of j
 unfolding is_acked
 noted-are judged = noted-all [] judged
 
-pub noted-more : (judged : List Judgement) (place : ℕ) (one : Judgement) → place < length judged
-    → fold noted [] (take (place + 1) judged) ≡ noted (fold noted [] (take place judged)) (get_or judged place one)
-noted-more judged place one within =
-    ap (λ (some : List Judgement). fold noted [] some) (take_more judged place one within)
-    ∙ fold-append noted [] (take place judged) (get_or judged place one ∷ [])
+-- a number that is above all isn't among them
+pub above_absent : (number greatest : ℕ) (numbers : List ℕ) → greatest < number → AllByRecursion (λ one. one ≤ greatest) numbers → among number numbers ≡ false
+above_absent number greatest [] above below = refl
+above_absent number greatest (one ∷ numbers) above below =
+    let other : (one == number) ≡ false = ne_eqb one number (λ same. omega (arith, above, below.0)) in
+    rw other (above_absent number greatest numbers above below.1)

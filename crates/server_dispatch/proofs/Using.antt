@@ -7,7 +7,7 @@ use Rattle.server_session.specs.declared.session.SessionState.{SessionState}
 use Rattle.server_session.specs.SessionState.{replies_left}
 use Rattle.server_session.specs.Unsaid.{NoMoreUnsaid}
 use Rattle.server_dispatch.specs.declared.turn.Turn.{Turn}
-use Rattle.server_dispatch.specs.Speaks.{HasRoom, Spends}
+use Rattle.server_dispatch.specs.Speaks.{Spends}
 use Rattle.server_dispatch.specs.Spare.{HasSpare, Uses}
 
 -- the same kept replies leave as much room for further ones
@@ -31,17 +31,6 @@ used called now messages size answers replies spent sized recorded kept standing
       key = spends.key;
       number = spends.number;
       at = spends.at;
-    }
-
--- where there is room beside, there is room
-pub has-room : (called : Kept → Bool) (messages size answers replies : ℕ) (needed sized recorded : ℕ) (standing : SessionState) (turn : Turn) → HasSpare called messages size answers replies standing turn
-    → needed ≤ messages → sized ≤ size → recorded ≤ answers → HasRoom needed sized recorded standing turn
-has-room called messages size answers replies needed sized recorded standing turn spare few short entered =
-    record {
-      places = omega (arith, spare.places);
-      bytes = omega (arith, spare.bytes);
-      numbers = omega (arith, spare.numbers);
-      entries = omega (arith, spare.entries);
     }
 
 pub more-used : (called : Kept → Bool) (now messages size answers replies : ℕ) (spent sized recorded kept : ℕ) (standing : SessionState) (turn : Turn) (after : SessionState) (left : Turn)

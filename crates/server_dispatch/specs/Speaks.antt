@@ -7,6 +7,7 @@ use Rattle.server_session.specs.declared.session.SessionState.{SessionState}
 use Rattle.server_session.specs.SessionState.{IsAt, key_of, number_of, numbers_left}
 use Rattle.server_session.specs.Says.{Says}
 use Rattle.server_dispatch.specs.declared.turn.Turn.{Turn}
+use Rattle.server_dispatch.specs.declared.speaking.Speaking.{Speaking}
 
 -- What is kept of a session, what it owes and records so far in an event, the jobs, the bindings and the draw are those of
 -- a speaker.
@@ -15,6 +16,10 @@ pub record Speaks {S : Type 0} (now : ℕ) (standing : SessionState) (turn : Tur
   pub jobs : queue ≡ speaker.jobs
   pub bindings : bound ≡ speaker.bindings
   pub entries : turn.entries.entries ≡ speaker.entries
+
+-- a session with all of these is that speaker
+abbrev pub IsSpokenBy : {S : Type 0} → ℕ → Speaking → S → Speaker S → Type 0
+IsSpokenBy now speaking draw speaker = Speaks now speaking.standing speaking.turn speaking.jobs.jobs speaking.bindings.bindings draw speaker
 
 -- What a step of a session uses up at most of the room that was taken before: places for so many messages, which each have
 -- a number of the session, with so many bytes of bodies, and so many places for entries. What was taken, and the session's

@@ -1,6 +1,7 @@
 //! What a session owes first to a packet.
 
-ghost use Rattle.std.specs.Prelude.{◌≡◌, ◌≤◌, ◌<◌, ◌+◌, if◌then◌else◌, ℕ, List, [], length, vec_len, vec_capacity};
+ghost use Rattle.std.specs.Prelude.{◌≡◌, ◌==◌, ◌≤◌, ◌<◌, ◌+◌, if◌then◌else◌, ℕ, List, [], length, vec_len, vec_capacity};
+ghost use Rattle.std.specs.List.{AllByRecursion, list_any};
 ghost use Rattle.inbox.specs.declared.judged.Judgement.{Judgement};
 ghost use Rattle.waits.specs.Jobs.{Queue};
 ghost use Rattle.server_rules.specs.Answer.{opens};
@@ -31,21 +32,43 @@ pub fn acks_in(judged: &[Judgement], acks: &mut Vec<u64>)
     ensures few { length acks.new.items ≤ length judged.now }
     ensures same_capacity { vec_capacity acks.new ≡ vec_capacity acks.old }
 {
+    let mut greatest = 0;
     for judgement in judged {
-        note(acks, judgement);
+        greatest = note(acks, greatest, judgement);
     }
 }
 
-// Puts the number of a judgement behind these where it is acknowledged and isn't among them.
-fn note(acks: &mut Vec<u64>, judgement: &Judgement)
+// Puts the number of a judgement behind these, of which none is above the given one, where it is acknowledged and isn't among
+// them. Gives a number that none of them is above then. The number of a container, which comes before its messages' and is
+// above them, isn't acknowledged, so it doesn't count here.
+fn note(acks: &mut Vec<u64>, greatest: u64, judgement: &Judgement) -> u64
     requires room { vec_len acks.old < vec_capacity acks.old }
+    requires below { AllByRecursion (λ number. number ≤ greatest) acks.old.items }
     ensures noted { acks.new.items ≡ noted acks.old.items judgement.now }
+    ensures below { AllByRecursion (λ number. number ≤ result) acks.new.items }
     ensures len { vec_len acks.new ≤ vec_len acks.old + 1 }
     ensures same_capacity { vec_capacity acks.new ≡ vec_capacity acks.old }
 {
-    if is_acked(judgement) && !has(acks.as_slice(), judgement.number) {
+    if !is_acked(judgement) {
+        return greatest;
+    }
+    if !is_among(acks.as_slice(), greatest, judgement.number) {
         acks.push_reserved(judgement.number);
     }
+    greatest.max(judgement.number)
+}
+
+// Whether this number is among these, of which none is above the given one. Numbers mostly come in order, and one above all of
+// them isn't looked for.
+#[tactic(auto, using(crate::proofs::Once::above_absent))]
+fn is_among(numbers: &[u64], greatest: u64, number: u64) -> bool
+    requires below { AllByRecursion (λ one. one ≤ greatest) numbers.now }
+    ensures { result ≡ list_any (λ other. other == number) numbers.now }
+{
+    if number > greatest {
+        return false;
+    }
+    has(numbers, number)
 }
 
 #[tactic(auto, unfolding(crate::specs::Acks::is_acked))]

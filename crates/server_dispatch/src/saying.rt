@@ -1,14 +1,12 @@
 //! What a session owes that keeps no reply and touches no job.
 
-ghost use Rattle.std.specs.Prelude.{◌≡◌, ◌≤◌, ℕ, List, length, min};
-ghost use Rattle.salt_line.specs.Rows.{future_rows_max};
-ghost use Rattle.service_tl.specs.declared.item.Item.TheVariants.{Pong};
+ghost use Rattle.std.specs.Prelude.{◌≡◌, ◌≤◌, ℕ, List, length};
 ghost use Rattle.waits.specs.Jobs.{Queue};
 ghost use Rattle.server_rules.specs.Server.{Binding};
 ghost use Rattle.server_rules.specs.Event.{Speaker};
 ghost use Rattle.server_rules.specs.Speaking.{says, says_it_is_new};
-ghost use Rattle.server_rules.specs.Rows.{acknowledges, notices, tells_salts};
-ghost use Rattle.server_output.specs.Items.{acks_bytes, bad_salt_bytes, destroyed_bytes, destroyed_item, ids_max, new_session_bytes, pong_bytes, salts_bytes};
+ghost use Rattle.server_rules.specs.Rows.{acknowledges, notices};
+ghost use Rattle.server_output.specs.Items.{acks_bytes, bad_salt_bytes, destroyed_bytes, destroyed_item, ids_max, new_session_bytes};
 ghost use Rattle.server_session.specs.SessionState.{IsAt, outbox_of};
 ghost use Rattle.server_session.specs.Says.{Keys, setting_of};
 ghost use Rattle.server_session.specs.Unsaid.{NoMoreUnsaid};
@@ -72,24 +70,6 @@ impl Turn {
         standing.notices(now, &mut self.owing, draw, number, seq, code);
     }
 
-    /// The session answers a ping that came in this message.
-    pub fn answers_ping<D: Draw>(
-        &mut self,
-        now: Moment,
-        standing: &mut SessionState,
-        message: u64,
-        ping: u64,
-    )
-        requires room { HasRoom 1 pong_bytes 0 standing.old self.old }
-        ensures speaks { (keys : Keys) (jobs : Queue) (bindings : List Binding) (draw : D) (speaker : Speaker D) → Speaks now standing.old self.old jobs bindings draw speaker
-            → Speaks now standing.new self.new jobs bindings draw (says (setting_of now D.step keys) (Pong message ping) speaker) }
-        ensures spends { Spends now 1 pong_bytes 0 standing.old self.old standing.new self.new }
-        ensures unsaid { NoMoreUnsaid standing.old self.old.owing standing.new self.new.owing }
-        ensures same_replies { outbox_of standing.new ≡ outbox_of standing.old }
-    {
-        standing.answers_ping::<D>(now, &mut self.owing, message, ping);
-    }
-
     /// The session says that another session of its key is gone, or that there was none.
     pub fn says_destroyed<D: Draw>(
         &mut self,
@@ -106,25 +86,5 @@ impl Turn {
         ensures same_replies { outbox_of standing.new ≡ outbox_of standing.old }
     {
         standing.says_destroyed::<D>(now, &mut self.owing, session, ok);
-    }
-
-    /// The session tells its salts from this moment on, at most 64, to the request in this message.
-    pub fn tells_salts<D: Draw>(
-        &mut self,
-        now: Moment,
-        standing: &mut SessionState,
-        draw: &mut D,
-        request: u64,
-        count: u32,
-    )
-        requires room { HasRoom 1 (salts_bytes (min count future_rows_max)) 0 standing.old self.old }
-        requires at { IsAt now standing.old }
-        ensures speaks { (keys : Keys) (jobs : Queue) (bindings : List Binding) (speaker : Speaker D) → Speaks now standing.old self.old jobs bindings draw.old speaker
-            → Speaks now standing.new self.new jobs bindings draw.new (tells_salts (setting_of now D.step keys) request (min count future_rows_max) speaker) }
-        ensures spends { Spends now 1 (salts_bytes (min count future_rows_max)) 0 standing.old self.old standing.new self.new }
-        ensures unsaid { NoMoreUnsaid standing.old self.old.owing standing.new self.new.owing }
-        ensures same_replies { outbox_of standing.new ≡ outbox_of standing.old }
-    {
-        standing.tells_salts(now, &mut self.owing, draw, request, count);
     }
 }

@@ -71,7 +71,7 @@ destroyed_item session ok = if ok then DestroySessionOk session else DestroySess
 abbrev pub salts_item : ℕ → ℕ → List SaltRow → Item
 salts_item request now rows = FutureSalts request now (map future_salt_of rows)
 
--- Scaffolding, and no promise: what the contracts of private functions cite.
+-- ---- what a server says: the item, the bytes of its body, and when it can be said
 
 abbrev pub item_of : Outgoing → Item
 item_of (NewSession first unique salt) = NewSessionCreated first unique salt

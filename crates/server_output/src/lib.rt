@@ -1,6 +1,6 @@
 //! What an event of one session owes, and its packets, in room that was taken before
 //! (core.telegram.org/mtproto/description, core.telegram.org/mtproto/service_messages). An `OutgoingMessages` is the list of
-//! messages that a session owes so far; its calls number what a server says and put it behind the others. A `Packets`
+//! messages that a session owes so far; `say` numbers what a server says, an `Outgoing`, and puts it behind the others. A `Packets`
 //! has the room for all packets of such a list, and `Outs` the room for what goes out. Only `new` takes memory.
 #![tactic(auto)]
 
@@ -12,4 +12,5 @@ mod said;
 
 pub use outs::{Header, Out, Outs};
 pub use owing::OutgoingMessages;
-pub use packets::{Packets, packets_most};
+pub use packets::{Delivery, Packets, packets_most};
+pub use said::Outgoing;

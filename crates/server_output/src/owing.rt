@@ -1,11 +1,9 @@
 //! The messages that an event of a session owes so far.
 
-ghost use Rattle.std.specs.Prelude.{◌≡◌, ◌≤◌, ◌<◌, ◌+◌, ◌++◌, ◌∷◌, ◌==◌, [], length, map, slice_index_or, vec_len, vec_capacity, All, IfOk};
+ghost use Rattle.std.specs.Prelude.{◌≡◌, ◌≤◌, ◌<◌, ◌+◌, ◌++◌, ◌∷◌, ◌==◌, [], length, map, slice_index_or, vec_len, vec_capacity, IfOk};
 ghost use Rattle.std.specs.List.{list_any};
 ghost use Rattle.containers.specs.Lent.{message_of};
 ghost use Rattle.msg_ids.specs.Counters.{room};
-ghost use Rattle.service_tl.specs.declared.item.Item.TheVariants.{RpcResult, Pong, NewSessionCreated, MsgsAck, MsgsStateInfo, BadMsgNotification, BadServerSalt};
-ghost use Rattle.service_tl.specs.Codes.{salt_code};
 ghost use Rattle.service_tl.specs.Items.{spelling_of};
 ghost use Rattle.packing.specs.Numbering.{after_item, numbered};
 
@@ -14,7 +12,6 @@ use crate::said::{Outgoing, number_of, spell};
 use containers::Part;
 use msg_ids::{Moment, Numbers};
 use octets::{Buffer, Memory};
-use salt_line::SaltRow;
 use std::alloc::Global;
 use std::marker::Model;
 
@@ -58,7 +55,7 @@ impl Model for OutgoingMessages {
 impl OutgoingMessages {
     ghost use Rattle.std.specs.List.{AllByRecursion};
     ghost use Rattle.server_output.specs.Dues.{CanGo, bodies_bytes, has_number};
-    ghost use Rattle.server_output.specs.Items.{CanBeSaid, IsContent, IsTimely, acks_bytes, bad_salt_bytes, destroyed_bytes, destroyed_item, ids_max, item_of, new_session_bytes, notice_bytes, pong_bytes, result_bytes, said_bytes, salts_bytes, salts_item, salts_max, states_bytes};
+    ghost use Rattle.server_output.specs.Items.{CanBeSaid, item_of, said_bytes};
 
     /// Nothing owed yet, and room for `places` messages with `bytes` bytes of bodies together.
     ///
@@ -85,199 +82,56 @@ impl OutgoingMessages {
         self.rows.len()
     }
 
-    /// Says that the session is new (core.telegram.org/mtproto/service_messages, "New Session Creation Notification"): calls
-    /// before the message `first` are lost, `unique` is a number of the server's own, and `salt` is valid now.
-    pub fn new_session(
-        &mut self,
-        now: Moment,
-        numbers: &mut Numbers,
-        first: u64,
-        unique: u64,
-        salt: u64,
-    )
+    /// Says an item, under the next number of the session: the number and the seq of its message.
+    pub fn say(&mut self, now: Moment, numbers: &mut Numbers, said: &Outgoing<'_>) -> (u64, u32)
+        requires lawful { CanBeSaid said.now }
         requires place { 0 < self.old.places }
-        requires bytes { new_session_bytes ≤ self.old.room }
+        requires bytes { said_bytes said.now ≤ self.old.room }
         requires numbers { 0 < room numbers.old }
-        ensures owed { self.new.messages ≡ self.old.messages ++ numbered now numbers.old (NewSessionCreated first unique salt) ∷ [] }
+        ensures given { (result.0 ≡ (numbered now numbers.old (item_of said.now)).number) × (result.1 ≡ (numbered now numbers.old (item_of said.now)).seq) }
+        ensures owed { self.new.messages ≡ self.old.messages ++ numbered now numbers.old (item_of said.now) ∷ [] }
         ensures places { self.new.places + 1 ≡ self.old.places }
         ensures taken { (self.new.places_taken ≡ self.old.places_taken) × (self.new.bytes_taken ≡ self.old.bytes_taken) }
-        ensures left { self.new.room + new_session_bytes ≡ self.old.room }
-        ensures counted { numbers.new ≡ after_item now numbers.old (NewSessionCreated first unique salt) }
+        ensures left { self.new.room + said_bytes said.now ≡ self.old.room }
+        ensures counted { numbers.new ≡ after_item now numbers.old (item_of said.now) }
         ensures room_lasts { room numbers.old ≤ room numbers.new + 1 }
     {
-        self.say(
-            now,
-            numbers,
-            &Outgoing::NewSession {
-                first,
-                unique,
-                salt,
-            },
-        );
+        sizes_of_said();
+        let (number, seq) = number_of(now, numbers, said);
+        let start = self.texts.as_slice().len();
+        spell(&mut self.texts, said);
+        let length = self.texts.as_slice().len() - start;
+        self.rows.push_reserved(Row {
+            number,
+            seq,
+            start,
+            length,
+        });
+        self.places -= 1;
+        (number, seq)
     }
 
-    /// Says that these messages were received, at most 8,192 of them
-    /// (core.telegram.org/mtproto/service_messages_about_messages, "Acknowledgment of Receipt").
-    pub fn acks(&mut self, now: Moment, numbers: &mut Numbers, ids: &[u64])
-        requires few { length ids.now ≤ ids_max }
+    /// Says an item once more, under the number and seq that it had.
+    pub fn again(&mut self, number: u64, seq: u32, said: &Outgoing<'_>)
+        requires lawful { CanBeSaid said.now }
         requires place { 0 < self.old.places }
-        requires bytes { acks_bytes (length ids.now) ≤ self.old.room }
-        requires numbers { 0 < room numbers.old }
-        ensures owed { self.new.messages ≡ self.old.messages ++ numbered now numbers.old (MsgsAck ids.now) ∷ [] }
+        requires bytes { said_bytes said.now ≤ self.old.room }
+        ensures owed { self.new.messages ≡ self.old.messages ++ record { number = number; seq = seq; body = spelling_of (item_of said.now) } ∷ [] }
         ensures places { self.new.places + 1 ≡ self.old.places }
         ensures taken { (self.new.places_taken ≡ self.old.places_taken) × (self.new.bytes_taken ≡ self.old.bytes_taken) }
-        ensures left { self.new.room + acks_bytes (length ids.now) ≡ self.old.room }
-        ensures counted { numbers.new ≡ after_item now numbers.old (MsgsAck ids.now) }
-        ensures room_lasts { room numbers.old ≤ room numbers.new + 1 }
+        ensures left { self.new.room + said_bytes said.now ≡ self.old.room }
     {
-        self.say(now, numbers, &Outgoing::Acks(ids));
-    }
-
-    /// Says that a message is refused, with the code of the cause (the same page, "Notice of Ignored Error Message").
-    pub fn notice(&mut self, now: Moment, numbers: &mut Numbers, number: u64, seq: u32, code: u32)
-        requires place { 0 < self.old.places }
-        requires bytes { notice_bytes ≤ self.old.room }
-        requires numbers { 0 < room numbers.old }
-        ensures owed { self.new.messages ≡ self.old.messages ++ numbered now numbers.old (BadMsgNotification number seq code) ∷ [] }
-        ensures places { self.new.places + 1 ≡ self.old.places }
-        ensures taken { (self.new.places_taken ≡ self.old.places_taken) × (self.new.bytes_taken ≡ self.old.bytes_taken) }
-        ensures left { self.new.room + notice_bytes ≡ self.old.room }
-        ensures counted { numbers.new ≡ after_item now numbers.old (BadMsgNotification number seq code) }
-        ensures room_lasts { room numbers.old ≤ room numbers.new + 1 }
-    {
-        self.say(now, numbers, &Outgoing::Notice { number, seq, code });
-    }
-
-    /// Says that a message is refused for its salt, code 48, and which salt is valid now (the same section).
-    pub fn bad_salt(&mut self, now: Moment, numbers: &mut Numbers, number: u64, seq: u32, salt: u64)
-        requires place { 0 < self.old.places }
-        requires bytes { bad_salt_bytes ≤ self.old.room }
-        requires numbers { 0 < room numbers.old }
-        ensures owed { self.new.messages ≡ self.old.messages ++ numbered now numbers.old (BadServerSalt number seq salt_code salt) ∷ [] }
-        ensures places { self.new.places + 1 ≡ self.old.places }
-        ensures taken { (self.new.places_taken ≡ self.old.places_taken) × (self.new.bytes_taken ≡ self.old.bytes_taken) }
-        ensures left { self.new.room + bad_salt_bytes ≡ self.old.room }
-        ensures counted { numbers.new ≡ after_item now numbers.old (BadServerSalt number seq salt_code salt) }
-        ensures room_lasts { room numbers.old ≤ room numbers.new + 1 }
-    {
-        self.say(now, numbers, &Outgoing::BadSalt { number, seq, salt });
-    }
-
-    /// Answers a ping that came in this message (core.telegram.org/mtproto/service_messages, "Ping Messages (PING/PONG)").
-    pub fn pong(&mut self, now: Moment, numbers: &mut Numbers, message: u64, ping: u64)
-        requires place { 0 < self.old.places }
-        requires bytes { pong_bytes ≤ self.old.room }
-        requires numbers { 0 < room numbers.old }
-        ensures owed { self.new.messages ≡ self.old.messages ++ numbered now numbers.old (Pong message ping) ∷ [] }
-        ensures places { self.new.places + 1 ≡ self.old.places }
-        ensures taken { (self.new.places_taken ≡ self.old.places_taken) × (self.new.bytes_taken ≡ self.old.bytes_taken) }
-        ensures left { self.new.room + pong_bytes ≡ self.old.room }
-        ensures counted { numbers.new ≡ after_item now numbers.old (Pong message ping) }
-        ensures room_lasts { room numbers.old ≤ room numbers.new + 1 }
-    {
-        self.say(now, numbers, &Outgoing::Pinged { message, ping });
-    }
-
-    /// Tells the rows of salts from this moment on, at most 64, to the request in this message (the same page, "Request for
-    /// several future salts").
-    pub fn salts(&mut self, now: Moment, numbers: &mut Numbers, request: u64, rows: &[SaltRow])
-        requires few { length rows.now ≤ salts_max }
-        requires timely { All IsTimely rows.now }
-        requires place { 0 < self.old.places }
-        requires bytes { salts_bytes (length rows.now) ≤ self.old.room }
-        requires numbers { 0 < room numbers.old }
-        ensures owed { self.new.messages ≡ self.old.messages ++ numbered now numbers.old (salts_item request now rows.now) ∷ [] }
-        ensures places { self.new.places + 1 ≡ self.old.places }
-        ensures taken { (self.new.places_taken ≡ self.old.places_taken) × (self.new.bytes_taken ≡ self.old.bytes_taken) }
-        ensures left { self.new.room + salts_bytes (length rows.now) ≡ self.old.room }
-        ensures counted { numbers.new ≡ after_item now numbers.old (salts_item request now rows.now) }
-        ensures room_lasts { room numbers.old ≤ room numbers.new + 1 }
-    {
-        self.say(
-            now,
-            numbers,
-            &Outgoing::Salts {
-                request,
-                now: now.seconds() as u32,
-                rows,
-            },
-        );
-    }
-
-    /// Tells states, a byte for each of at most 8,192 messages, to the request in this message
-    /// (core.telegram.org/mtproto/service_messages_about_messages, "Informational Message regarding Status of Messages").
-    pub fn states(&mut self, now: Moment, numbers: &mut Numbers, request: u64, info: &[u8])
-        requires few { length info.now ≤ ids_max }
-        requires place { 0 < self.old.places }
-        requires bytes { states_bytes (length info.now) ≤ self.old.room }
-        requires numbers { 0 < room numbers.old }
-        ensures owed { self.new.messages ≡ self.old.messages ++ numbered now numbers.old (MsgsStateInfo request info.now) ∷ [] }
-        ensures places { self.new.places + 1 ≡ self.old.places }
-        ensures taken { (self.new.places_taken ≡ self.old.places_taken) × (self.new.bytes_taken ≡ self.old.bytes_taken) }
-        ensures left { self.new.room + states_bytes (length info.now) ≡ self.old.room }
-        ensures counted { numbers.new ≡ after_item now numbers.old (MsgsStateInfo request info.now) }
-        ensures room_lasts { room numbers.old ≤ room numbers.new + 1 }
-    {
-        self.say(now, numbers, &Outgoing::States { request, info });
-    }
-
-    /// Says that a session is gone, or that there was none (core.telegram.org/mtproto/service_messages, "Request to Destroy
-    /// Session").
-    pub fn destroyed(&mut self, now: Moment, numbers: &mut Numbers, session: u64, ok: bool)
-        requires place { 0 < self.old.places }
-        requires bytes { destroyed_bytes ≤ self.old.room }
-        requires numbers { 0 < room numbers.old }
-        ensures owed { self.new.messages ≡ self.old.messages ++ numbered now numbers.old (destroyed_item session ok) ∷ [] }
-        ensures places { self.new.places + 1 ≡ self.old.places }
-        ensures taken { (self.new.places_taken ≡ self.old.places_taken) × (self.new.bytes_taken ≡ self.old.bytes_taken) }
-        ensures left { self.new.room + destroyed_bytes ≡ self.old.room }
-        ensures counted { numbers.new ≡ after_item now numbers.old (destroyed_item session ok) }
-        ensures room_lasts { room numbers.old ≤ room numbers.new + 1 }
-    {
-        let said = if ok {
-            Outgoing::Ended { session }
-        } else {
-            Outgoing::NoSession { session }
-        };
-        self.say(now, numbers, &said);
-    }
-
-    /// Answers a call with this content, which is whole words of 4 bytes and at most 1,044,468 bytes
-    /// (core.telegram.org/mtproto/service_messages, "Response to an RPC query"). The number and the seq of the result, under
-    /// which it is kept.
-    pub fn result(
-        &mut self,
-        now: Moment,
-        numbers: &mut Numbers,
-        call: u64,
-        content: &[u8],
-    ) -> (u64, u32)
-        requires content { IsContent content.now }
-        requires place { 0 < self.old.places }
-        requires bytes { result_bytes (length content.now) ≤ self.old.room }
-        requires numbers { 0 < room numbers.old }
-        ensures given { (result.0 ≡ (numbered now numbers.old (RpcResult call content.now)).number) × (result.1 ≡ (numbered now numbers.old (RpcResult call content.now)).seq) }
-        ensures owed { self.new.messages ≡ self.old.messages ++ numbered now numbers.old (RpcResult call content.now) ∷ [] }
-        ensures places { self.new.places + 1 ≡ self.old.places }
-        ensures taken { (self.new.places_taken ≡ self.old.places_taken) × (self.new.bytes_taken ≡ self.old.bytes_taken) }
-        ensures left { self.new.room + result_bytes (length content.now) ≡ self.old.room }
-        ensures counted { numbers.new ≡ after_item now numbers.old (RpcResult call content.now) }
-        ensures room_lasts { room numbers.old ≤ room numbers.new + 1 }
-    {
-        self.say(now, numbers, &Outgoing::Result { call, content })
-    }
-
-    /// Owes a kept result once more, under its own number and seq.
-    pub fn again(&mut self, number: u64, seq: u32, call: u64, content: &[u8])
-        requires content { IsContent content.now }
-        requires place { 0 < self.old.places }
-        requires bytes { result_bytes (length content.now) ≤ self.old.room }
-        ensures owed { self.new.messages ≡ self.old.messages ++ record { number = number; seq = seq; body = spelling_of (RpcResult call content.now) } ∷ [] }
-        ensures places { self.new.places + 1 ≡ self.old.places }
-        ensures taken { (self.new.places_taken ≡ self.old.places_taken) × (self.new.bytes_taken ≡ self.old.bytes_taken) }
-        ensures left { self.new.room + result_bytes (length content.now) ≡ self.old.room }
-    {
-        self.owe(number, seq, &Outgoing::Result { call, content });
+        sizes_of_said();
+        let start = self.texts.as_slice().len();
+        spell(&mut self.texts, said);
+        let length = self.texts.as_slice().len() - start;
+        self.rows.push_reserved(Row {
+            number,
+            seq,
+            start,
+            length,
+        });
+        self.places -= 1;
     }
 
     /// Whether an owed message has this number.
@@ -321,48 +175,6 @@ impl OutgoingMessages {
             parts.push_reserved(self.at(place));
         }
         parts
-    }
-
-    // Puts an item behind the others, under this number and seq.
-    fn owe(&mut self, number: u64, seq: u32, said: &Outgoing<'_>)
-        requires lawful { CanBeSaid said.now }
-        requires place { 0 < self.old.places }
-        requires bytes { said_bytes said.now ≤ self.old.room }
-        ensures owed { self.new.messages ≡ self.old.messages ++ record { number = number; seq = seq; body = spelling_of (item_of said.now) } ∷ [] }
-        ensures places { self.new.places + 1 ≡ self.old.places }
-        ensures taken { (self.new.places_taken ≡ self.old.places_taken) × (self.new.bytes_taken ≡ self.old.bytes_taken) }
-        ensures left { self.new.room + said_bytes said.now ≡ self.old.room }
-    {
-        sizes_of_said();
-        let start = self.texts.as_slice().len();
-        spell(&mut self.texts, said);
-        let length = self.texts.as_slice().len() - start;
-        self.rows.push_reserved(Row {
-            number,
-            seq,
-            start,
-            length,
-        });
-        self.places -= 1;
-    }
-
-    // Says an item, under its next number.
-    fn say(&mut self, now: Moment, numbers: &mut Numbers, said: &Outgoing<'_>) -> (u64, u32)
-        requires lawful { CanBeSaid said.now }
-        requires place { 0 < self.old.places }
-        requires bytes { said_bytes said.now ≤ self.old.room }
-        requires numbers { 0 < room numbers.old }
-        ensures given { (result.0 ≡ (numbered now numbers.old (item_of said.now)).number) × (result.1 ≡ (numbered now numbers.old (item_of said.now)).seq) }
-        ensures owed { self.new.messages ≡ self.old.messages ++ numbered now numbers.old (item_of said.now) ∷ [] }
-        ensures places { self.new.places + 1 ≡ self.old.places }
-        ensures taken { (self.new.places_taken ≡ self.old.places_taken) × (self.new.bytes_taken ≡ self.old.bytes_taken) }
-        ensures left { self.new.room + said_bytes said.now ≡ self.old.room }
-        ensures counted { numbers.new ≡ after_item now numbers.old (item_of said.now) }
-        ensures room_lasts { room numbers.old ≤ room numbers.new + 1 }
-    {
-        let (number, seq) = number_of(now, numbers, said);
-        self.owe(number, seq, said);
-        (number, seq)
     }
 }
 

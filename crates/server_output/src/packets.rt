@@ -110,39 +110,50 @@ impl Packets {
             )?,
         })
     }
+}
 
+/// What a session sends: all that it owes, and the room for its packets.
+#[derive(Debug, Drop)]
+pub struct Delivery<'a> {
+    /// What it owes.
+    pub owing: &'a OutgoingMessages,
+    /// The room for its packets.
+    pub packets: Packets,
+}
+
+impl Delivery<'_> {
     /// Sends all that is owed: messages are put into packets in order, the containers among these are numbered, and each
     /// packet is sealed under the header and goes out behind the others. Takes no memory.
     pub fn send<S: Seal, D: Draw>(
         self,
         now: Moment,
         numbers: &mut Numbers,
-        owing: &OutgoingMessages,
         header: Header,
         seal: &S,
         draw: &mut D,
         outs: &mut Outs,
     )
-        requires few { owing.now.places_taken ≤ self.messages }
-        requires short { owing.now.bytes_taken ≤ self.bytes }
+        requires few { self.owing.now.places_taken ≤ self.packets.messages }
+        requires short { self.owing.now.bytes_taken ≤ self.packets.bytes }
         requires key { IsSome (entry_of header.key (S.keys seal.now)) }
-        requires numbers { packets_most self.messages self.bytes ≤ room numbers.old }
-        requires outs { packets_most self.messages self.bytes ≤ outs.old.room }
-        ensures sent { GoesOn S.lock (S.keys seal.now) (sent_of D.step header (packets_of now numbers.old owing.now.messages) draw.old) outs.old.outs outs.new.outs }
+        requires numbers { packets_most self.packets.messages self.packets.bytes ≤ room numbers.old }
+        requires outs { packets_most self.packets.messages self.packets.bytes ≤ outs.old.room }
+        ensures sent { GoesOn S.lock (S.keys seal.now) (sent_of D.step header (packets_of now numbers.old self.entry.owing.now.messages) draw.old) outs.old.outs outs.new.outs }
         ensures so_far { (before : List Sent) → AreSent S.lock (S.keys seal.now) before outs.old.outs
-            → AreSent S.lock (S.keys seal.now) (before ++ sent_of D.step header (packets_of now numbers.old owing.now.messages) draw.old) outs.new.outs }
-        ensures counted { numbers.new ≡ after_packets now numbers.old owing.now.messages }
-        ensures drawn { draw.new ≡ draw_after_sent D.step (packets_of now numbers.old owing.now.messages) draw.old }
-        ensures left { outs.new.room + length (groups owing.now.messages) ≡ outs.old.room }
-        ensures room_lasts { outs.old.room ≤ outs.new.room + packets_most self.messages self.bytes }
-        ensures numbers_last { room numbers.old ≤ room numbers.new + packets_most self.messages self.bytes }
+            → AreSent S.lock (S.keys seal.now) (before ++ sent_of D.step header (packets_of now numbers.old self.entry.owing.now.messages) draw.old) outs.new.outs }
+        ensures counted { numbers.new ≡ after_packets now numbers.old self.entry.owing.now.messages }
+        ensures drawn { draw.new ≡ draw_after_sent D.step (packets_of now numbers.old self.entry.owing.now.messages) draw.old }
+        ensures left { outs.new.room + length (groups self.entry.owing.now.messages) ≡ outs.old.room }
+        ensures room_lasts { outs.old.room ≤ outs.new.room + packets_most self.entry.packets.messages self.entry.packets.bytes }
+        ensures numbers_last { room numbers.old ≤ room numbers.new + packets_most self.entry.packets.messages self.entry.packets.bytes }
     {
+        let Delivery { owing, packets } = self;
         let Packets {
             messages: _,
             bytes: _,
             parts,
             mut places,
-        } = self;
+        } = packets;
         container_sizes();
         let parts = owing.lent(parts);
         let mut start = 0;

@@ -7,7 +7,7 @@ ghost use Rattle.service_tl.specs.Sizes.{SaltFits};
 ghost use Rattle.service_tl.specs.Items.{ItemFits, spelling_of};
 ghost use Rattle.packing.specs.Numbering.{addition, after_item, is_content_related, numbered};
 ghost use Rattle.server_rules.specs.Rows.{future_salt_of};
-ghost use Rattle.server_output.specs.Items.{CanBeSaid, IsTimely, item_of, said_bytes, salts_max};
+ghost use Rattle.server_output.specs.Items.{CanBeSaid, IsTimely, destroyed_bytes, destroyed_item, item_of, said_bytes, salts_max};
 
 use msg_ids::{Moment, Numbers};
 use octets::Buffer;
@@ -21,47 +21,95 @@ use service_tl::{
 use tl_codec::fill;
 
 /// An item that a server says in an event, lent.
-#[derive(Clone, Copy)]
-pub(crate) enum Outgoing<'a> {
+#[derive(Clone, Copy, Debug)]
+pub enum Outgoing<'a> {
+    /// The session is new (core.telegram.org/mtproto/service_messages, "New Session Creation Notification").
     NewSession {
+        /// Calls before this message are lost.
         first: u64,
+        /// A number of the server's own.
         unique: u64,
+        /// The salt that is valid now.
         salt: u64,
     },
+    /// These messages were received, at most 8,192 of them (core.telegram.org/mtproto/service_messages_about_messages,
+    /// "Acknowledgment of Receipt").
     Acks(&'a [u64]),
+    /// A message is refused (the same page, "Notice of Ignored Error Message").
     Notice {
+        /// The message's identifier.
         number: u64,
+        /// Its sequence number.
         seq: u32,
+        /// The code of the cause.
         code: u32,
     },
+    /// A message is refused for its salt, code 48 (the same section).
     BadSalt {
+        /// The message's identifier.
         number: u64,
+        /// Its sequence number.
         seq: u32,
+        /// The salt that is valid now.
         salt: u64,
     },
+    /// The answer to a ping (core.telegram.org/mtproto/service_messages, "Ping Messages (PING/PONG)").
     Pinged {
+        /// The message that the ping came in.
         message: u64,
+        /// The ping's identifier.
         ping: u64,
     },
+    /// The rows of salts from a moment on, at most 64 (the same page, "Request for several future salts").
     Salts {
+        /// The message that asked for them.
         request: u64,
+        /// The moment, in seconds.
         now: u32,
+        /// The rows.
         rows: &'a [SaltRow],
     },
+    /// The states of at most 8,192 messages, a byte for each (core.telegram.org/mtproto/service_messages_about_messages,
+    /// "Informational Message regarding Status of Messages").
     States {
+        /// The message that asked for them.
         request: u64,
+        /// The states.
         info: &'a [u8],
     },
+    /// A session is gone (core.telegram.org/mtproto/service_messages, "Request to Destroy Session").
     Ended {
+        /// Its number.
         session: u64,
     },
+    /// There is no such session (the same section).
     NoSession {
+        /// Its number.
         session: u64,
     },
+    /// The answer to a call, whose content is whole words of 4 bytes and at most 1,044,468 bytes (the same page, "Response to
+    /// an RPC query").
     Result {
+        /// The call's message identifier.
         call: u64,
+        /// The content.
         content: &'a [u8],
     },
+}
+
+impl Outgoing<'_> {
+    /// That this session is gone, or that there was none.
+    pub fn destroyed(session: u64, ok: bool) -> Outgoing<'static>
+        ensures item { item_of result ≡ destroyed_item session ok }
+        ensures bytes { said_bytes result ≡ destroyed_bytes }
+        ensures lawful { CanBeSaid result }
+    {
+        if ok {
+            Outgoing::Ended { session }
+        } else {
+            Outgoing::NoSession { session }
+        }
+    }
 }
 
 /// The number and the seq of a further message of this item.

@@ -34,22 +34,6 @@ call-stays fate number r = cond_both (is_one number r) (record r { fate = fate }
 
 -- ---- what stays of each reply
 
-pub same-numbers : (fate : Fate) (number : ℕ) (replies : List Reply) → map (λ (r : Reply). r.number) (refated fate number replies) ≡ map (λ (r : Reply). r.number) replies
-same-numbers fate number [] = refl
-same-numbers fate number (r ∷ rs) =
-    elim (cases_Bool (is_one number r)) [
-      | inl is ↦ rw (is, same-numbers fate number rs) refl
-      | inr not ↦ rw (not, same-numbers fate number rs) refl
-    ]
-
-pub same-calls : (fate : Fate) (number : ℕ) (replies : List Reply) → map (λ (r : Reply). r.call) (refated fate number replies) ≡ map (λ (r : Reply). r.call) replies
-same-calls fate number [] = refl
-same-calls fate number (r ∷ rs) =
-    elim (cases_Bool (is_one number r)) [
-      | inl is ↦ rw (is, same-calls fate number rs) refl
-      | inr not ↦ rw (not, same-calls fate number rs) refl
-    ]
-
 -- no reply has the number
 pub none-refated : (fate : Fate) (number : ℕ) (replies : List Reply) → list_any (λ m. eqb m number) (map (λ (r : Reply). r.number) replies) ≡ false
     → refated fate number replies ≡ replies

@@ -1,12 +1,11 @@
 -- Kept replies that are found.
-use Rattle.std.proofs.Common.{◌≡◌, ◌∙◌, eqb, Bool, Option, Some, [], ◌∷◌, ℕ, subst, sym, ap, inl, inr}
+use Rattle.std.proofs.Common.{◌≡◌, Bool, Option, Some, [], ◌∷◌, subst, sym, inl, inr}
 use Rattle.std.specs.List.{All, find}
 use Rattle.std.specs.Option.{IfSome}
-use Rattle.std.proofs.lemmas.Bool.{cases_Bool, cond-true, cond-false, eqb-true}
-use Rattle.std.proofs.lemmas.Option.{none-some, same_Some}
+use Rattle.std.proofs.lemmas.Bool.{cases_Bool, cond-true, cond-false}
 use Rattle.std.proofs.lemmas.List.Elements.{All-head, All-tail}
 use Rattle.outbox.specs.declared.kept.Kept.{Kept}
-use Rattle.outbox.specs.Replies.{Replies, by_number}
+use Rattle.outbox.specs.Replies.{Replies}
 use Rattle.server_session.specs.Kept.{IsResult}
 
 -- a kept reply that is found is a result
@@ -22,14 +21,3 @@ found-result test (one ∷ replies) all =
 
 pub is-result : (test : Kept → Bool) (replies : Replies) (kept : Kept) → find test replies ≡ Some kept → All IsResult replies → IsResult kept
 is-result test replies kept found all = subst (λ (one : Option Kept). IfSome one IsResult) found (found-result test replies all)
-
--- and it has the number that it was found by
-pub numbered : (number : ℕ) (replies : Replies) (kept : Kept) → by_number number replies ≡ Some kept → kept.number ≡ number
-numbered number [] kept found = absurd (none-some kept found)
-numbered number (one ∷ replies) kept found =
-    elim (cases_Bool (eqb one.number number)) [
-      | inl here ↦
-          ap (λ (one : Kept). one.number) (sym (same_Some one kept (sym (cond-true (eqb one.number number) (Some one) (by_number number replies) here) ∙ found)))
-          ∙ eqb-true one.number number here
-      | inr later ↦ numbered number replies kept (sym (cond-false (eqb one.number number) (Some one) (by_number number replies) later) ∙ found)
-    ]

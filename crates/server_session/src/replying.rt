@@ -27,7 +27,7 @@ use crate::session::SessionState;
 use draws::Draw;
 use msg_ids::Moment;
 use outbox::{Body, Bytes, Kept};
-use server_output::OutgoingMessages;
+use server_output::{Outgoing, OutgoingMessages};
 use server_rules::laws::oldest_replies_are_dropped;
 use service_tl::is_good;
 
@@ -62,7 +62,7 @@ impl SessionState {
         ensures same_number { number_of self.new ≡ number_of self.old }
         ensures same_salts { self.new.salts ≡ self.old.salts }
     {
-        owing.result(now, &mut self.numbers, call, content)
+        owing.say(now, &mut self.numbers, &Outgoing::Result { call, content })
     }
 
     // Where a further reply of so many bytes doesn't fit, the oldest one is dropped, and its call is marked so. Whether one

@@ -37,7 +37,7 @@ use octets::Memory;
 use outbox::{Kept, Outbox};
 use salt_line::{SaltLine, SaltRow};
 use server_output::laws::sent_as_the_rules_say;
-use server_output::{Header, OutgoingMessages, Outs, Packets};
+use server_output::{Delivery, Header, Outgoing, OutgoingMessages, Outs};
 use service_tl::codes::WRONG_SALT;
 use std::alloc::Global;
 use waits::Jobs;
@@ -163,7 +163,11 @@ impl SessionState {
         said_by_number::<D>();
         replies_are_results();
         if !owing.has_said(kept.number) {
-            owing.again(kept.number, kept.seq, kept.call, kept.body.rest());
+            let said = Outgoing::Result {
+                call: kept.call,
+                content: kept.body.rest(),
+            };
+            owing.again(kept.number, kept.seq, &said);
         }
     }
 
@@ -220,7 +224,12 @@ impl SessionState {
         ensures at { IsAt now self.old → IsAt now self.new }
     {
         let salt = self.salts.current(now, draw);
-        owing.new_session(now, &mut self.numbers, self.first, self.unique, salt);
+        let said = Outgoing::NewSession {
+            first: self.first,
+            unique: self.unique,
+            salt,
+        };
+        owing.say(now, &mut self.numbers, &said);
     }
 
     /// Says which messages it received, unless there is none.
@@ -242,7 +251,7 @@ impl SessionState {
         ensures at { IsAt now self.old → IsAt now self.new }
     {
         if !ids.is_empty() {
-            owing.acks(now, &mut self.numbers, ids);
+            owing.say(now, &mut self.numbers, &Outgoing::Acks(ids));
         }
     }
 
@@ -274,9 +283,11 @@ impl SessionState {
     {
         if code == WRONG_SALT {
             let salt = self.salts.current(now, draw);
-            owing.bad_salt(now, &mut self.numbers, number, seq, salt);
+            let said = Outgoing::BadSalt { number, seq, salt };
+            owing.say(now, &mut self.numbers, &said);
         } else {
-            owing.notice(now, &mut self.numbers, number, seq, code);
+            let said = Outgoing::Notice { number, seq, code };
+            owing.say(now, &mut self.numbers, &said);
         }
     }
 
@@ -303,7 +314,7 @@ impl SessionState {
         ensures unsaid { NoMoreUnsaid self.old owing.old self.new owing.new }
         ensures at { IsAt now self.old → IsAt now self.new }
     {
-        owing.pong(now, &mut self.numbers, message, ping);
+        owing.say(now, &mut self.numbers, &Outgoing::Pinged { message, ping });
     }
 
     /// Says that another session of its key is gone, or that there was none.
@@ -329,7 +340,7 @@ impl SessionState {
         ensures unsaid { NoMoreUnsaid self.old owing.old self.new owing.new }
         ensures at { IsAt now self.old → IsAt now self.new }
     {
-        owing.destroyed(now, &mut self.numbers, session, ok);
+        owing.say(now, &mut self.numbers, &Outgoing::destroyed(session, ok));
     }
 
     /// Tells its salts from this moment on, at most 64, to the request in this message.
@@ -359,7 +370,12 @@ impl SessionState {
     {
         let mut rows = [NO_SALT; SALT_ROWS_MAX];
         let told = self.salts.future(now, count as usize, draw, &mut rows);
-        owing.salts(now, &mut self.numbers, request, &rows[..told]);
+        let said = Outgoing::Salts {
+            request,
+            now: now.seconds() as u32,
+            rows: &rows[..told],
+        };
+        owing.say(now, &mut self.numbers, &said);
     }
 
     /// Sends all that it owes, under its current salt: in packets, whose containers are numbered now, one sealed after the
@@ -367,27 +383,26 @@ impl SessionState {
     pub fn sends<S: Seal, D: Draw>(
         &mut self,
         now: Moment,
-        owing: &OutgoingMessages,
-        packets: Packets,
+        delivery: Delivery<'_>,
         seal: &S,
         draw: &mut D,
         outs: &mut Outs,
     )
-        requires few { owing.now.places_taken ≤ packets.messages }
-        requires short { owing.now.bytes_taken ≤ packets.bytes }
+        requires few { delivery.owing.now.places_taken ≤ delivery.packets.messages }
+        requires short { delivery.owing.now.bytes_taken ≤ delivery.packets.bytes }
         requires key { IsSome (entry_of (key_of self.old) (S.keys seal.now)) }
-        requires numbers { packets_most packets.messages packets.bytes ≤ numbers_left self.old }
-        requires outs { packets_most packets.messages packets.bytes ≤ outs.old.room }
+        requires numbers { packets_most delivery.packets.messages delivery.packets.bytes ≤ numbers_left self.old }
+        requires outs { packets_most delivery.packets.messages delivery.packets.bytes ≤ outs.old.room }
         requires at { IsAt now self.old }
-        ensures stands { (keys : Keys) (speaker : Speaker D) → Says now self.old owing.now draw.old speaker
-            → Stands now self.new (sends (setting_of now D.step keys) owing.now.messages speaker).session }
-        ensures drawn { (keys : Keys) (speaker : Speaker D) → Says now self.old owing.now draw.old speaker
-            → draw.new ≡ (sends (setting_of now D.step keys) owing.now.messages speaker).draw }
-        ensures sent { (keys : Keys) (speaker : Speaker D) → Says now self.old owing.now draw.old speaker
+        ensures stands { (keys : Keys) (speaker : Speaker D) → Says now self.old delivery.entry.owing.now draw.old speaker
+            → Stands now self.new (sends (setting_of now D.step keys) delivery.entry.owing.now.messages speaker).session }
+        ensures drawn { (keys : Keys) (speaker : Speaker D) → Says now self.old delivery.entry.owing.now draw.old speaker
+            → draw.new ≡ (sends (setting_of now D.step keys) delivery.entry.owing.now.messages speaker).draw }
+        ensures sent { (keys : Keys) (speaker : Speaker D) → Says now self.old delivery.entry.owing.now draw.old speaker
             → AreSent S.lock (S.keys seal.now) speaker.sent outs.old.outs
-            → AreSent S.lock (S.keys seal.now) (sends (setting_of now D.step keys) owing.now.messages speaker).sent outs.new.outs }
-        ensures room_lasts { outs.old.room ≤ outs.new.room + packets_most packets.messages packets.bytes }
-        ensures numbers_last { numbers_left self.old ≤ numbers_left self.new + packets_most packets.messages packets.bytes }
+            → AreSent S.lock (S.keys seal.now) (sends (setting_of now D.step keys) delivery.entry.owing.now.messages speaker).sent outs.new.outs }
+        ensures room_lasts { outs.old.room ≤ outs.new.room + packets_most delivery.entry.packets.messages delivery.entry.packets.bytes }
+        ensures numbers_last { numbers_left self.old ≤ numbers_left self.new + packets_most delivery.entry.packets.messages delivery.entry.packets.bytes }
         ensures same_key { key_of self.new ≡ key_of self.old }
         ensures same_number { number_of self.new ≡ number_of self.old }
         ensures same_replies { outbox_of self.new ≡ outbox_of self.old }
@@ -400,6 +415,6 @@ impl SessionState {
             session: self.number,
             salt,
         };
-        packets.send(now, &mut self.numbers, owing, header, seal, draw, outs);
+        delivery.send(now, &mut self.numbers, header, seal, draw, outs);
     }
 }

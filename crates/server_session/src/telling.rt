@@ -10,7 +10,7 @@ ghost use Rattle.server_output.specs.Items.{ids_max, states_bytes};
 use crate::session::SessionState;
 use draws::Draw;
 use msg_ids::Moment;
-use server_output::OutgoingMessages;
+use server_output::{Outgoing, OutgoingMessages};
 
 /// How many states are told at once.
 const STATES_MAX: usize = 8_192;
@@ -47,7 +47,11 @@ impl SessionState {
     {
         let mut states = [0; STATES_MAX];
         self.states(ids, &mut states);
-        owing.states(now, &mut self.numbers, request, &states[..ids.len()]);
+        let said = Outgoing::States {
+            request,
+            info: &states[..ids.len()],
+        };
+        owing.say(now, &mut self.numbers, &said);
     }
 
     // Writes the state of each of these numbers.

@@ -135,10 +135,6 @@ copying xs i x within there limits =
 
 -- where there is no job and no tally
 
-none_front : (n : ℕ) → somes (take n []) ≡ []
-none_front zero = refl
-none_front (suc n) = refl
-
 pub stands_new : (line : Line) → line.slots.items ≡ [] → IsLine line → Stands line []
 stands_new line none counted =
     let items : somes line.slots.items ≡ [] = ap somes none in

@@ -1,8 +1,8 @@
 -- What is found, and what a call changes, where no job is of the kind that it looks for.
-use Rattle.std.proofs.Common.{◌≡◌, ◌∙◌, ℕ, Bool, true, false, not, ◌&&◌, ◌==◌, cond, List, [], ◌∷◌, map, ap, refl, arith}
+use Rattle.std.proofs.Common.{◌≡◌, ◌∙◌, ℕ, Bool, true, false, not, ◌&&◌, cond, List, [], ◌∷◌, map, ap, refl, arith}
 use Rattle.std.specs.List.{list_any}
 use Rattle.waits.specs.declared.job.Unfinished.{Unfinished}
-use Rattle.waits.specs.Jobs.{Queue, is_of, is_call, is_empty, is_waiting, is_ready, has_failed, one_if, total, waits_for, after_answer, settled, without_session, job_count, waiting_count, blocked_count, failed_count}
+use Rattle.waits.specs.Jobs.{Queue, is_of, is_empty, is_waiting, is_ready, has_failed, one_if, total, waits_for, after_answer, settled, without_session, job_count, waiting_count, blocked_count, failed_count}
 use Rattle.waits.specs.Tallies.{awaiting_count}
 use Rattle.waits.proofs.Places.{IsNone}
 
@@ -28,14 +28,7 @@ changes_none kind change needs (x ∷ xs) none =
     let later = changes_none kind change needs xs (omega arith) in
     cc
 
-and_false : (own any : Bool) → own ≡ false → (own && any) ≡ false
-and_false true any here = let clash : true ≡ false = here in cc
-and_false false any here = refl
-
 -- ---- a session with no job
-
-pub calls_none : (key session number : ℕ) (xs : Queue) → job_count key session xs ≡ 0 → IsNone (is_call key session number) xs
-calls_none key session number xs none = finds_none (is_of key session) (is_call key session number) (λ x other. and_false (is_of key session x) (x.job.number == number) other) xs none
 
 kept_cond : (x : Unfinished) (own : Bool) (ys : Queue) → own ≡ false → cond (not own) (x ∷ ys) ys ≡ x ∷ ys
 kept_cond x true ys other = let clash : true ≡ false = other in cc

@@ -101,9 +101,6 @@ passed_push slots s n within none = subst (λ (xs : List Slot). ready_count (som
 
 -- ---- in front none is so
 
-pub clear_start : (test : Unfinished → Bool) (slots : List Slot) → IsClear test slots 0
-clear_start test slots = record { none = λ k below. absurd (omega arith); within = omega arith }
-
 pub clear_push : (test : Unfinished → Bool) (slots : List Slot) (s : Slot) (n : ℕ) → IsClear test slots n → IsClear test (slots ++ s ∷ []) n
 clear_push test slots s n clear = record {
   none = λ k below. ap (passes test) (job_push_below slots s k (omega (arith, clear.within))) ∙ clear.none k below;

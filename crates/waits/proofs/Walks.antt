@@ -82,14 +82,6 @@ cursor_le own slots zero cursor walks = omega arith
 cursor_le own slots (suc b) cursor (inl here) = omega (arith, here.0)
 cursor_le own slots (suc b) cursor (inr other) = let later = cursor_le own slots b cursor other.1 in omega arith
 
--- where a place has no such job, a walk may pass it
-pub walks_over : (own : Unfinished → Bool) (slots : List Slot) (b p : ℕ) → passes own (job_at slots p) ≡ false → Walks own slots b (suc p) → Walks own slots b (link_at slots p)
-walks_over own slots zero p none walks = absurd (omega arith)
-walks_over own slots (suc b) p none (inl here) =
-    let same : b ≡ p = omega (arith, here.0) in
-    inr (subst (λ (n : ℕ). passes own (job_at slots n) ≡ false) (sym same) none, subst (λ (n : ℕ). Walks own slots b (link_at slots n)) same here.1)
-walks_over own slots (suc b) p none (inr other) = inr (other.0, walks_over own slots b p none other.1)
-
 -- ---- a walk over all
 
 -- a walk goes on from a cursor, and behind it stands no bad job

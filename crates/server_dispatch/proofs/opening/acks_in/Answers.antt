@@ -1,4 +1,5 @@
-use Rattle.std.proofs.Common.{◌∙◌, List, [], fold, ap, arith}
+use Rattle.std.proofs.Common.{◌∙◌, List, [], fold, ap, arith, rules}
+use Rattle.std.proofs.lemmas.Grind.{common_steps}
 use Rattle.std.proofs.lemmas.List.{take_all}
 use Rattle.inbox.specs.declared.judged.Judgement.{Judgement}
 use Rattle.server_dispatch.specs.Acks.{noted}
@@ -9,3 +10,11 @@ pub returns-clause-acks : goal.returns-clause-acks
 returns-clause-acks c =
     c.loop-judgement.invariant.0
     ∙ (ap (λ (some : List Judgement). fold noted [] some) (take_all c.loop-judgement.judgement-index c.args.judged.now (omega arith)) ∙ noted-are c.args.judged.now)
+
+pub loop-judgement-preserved : goal.loop-judgement-preserved
+loop-judgement-preserved c = (
+  grind (arith, common_steps),
+  omega (arith, c.note-greatest.ensures.len, c.loop-judgement.invariant.1),
+  search rules,
+  c.note-greatest.ensures.below,
+)

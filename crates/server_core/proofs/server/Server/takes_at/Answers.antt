@@ -32,7 +32,7 @@ use Rattle.server_core.proofs.server.Server.takes_at.Goals as goal
 pub hears_known-others-requires : goal.hears_known-others-requires
 hears_known-others-requires g c =
     let K : Type 0 = Kept g.row.S.Denot in
-    let name : Name = record { key = c.args.key; session = c.args.session } in
+    let name : Name = record { key = c.args.name.key; session = c.args.name.session } in
     let standings = c.self.inside.sessions in
     let placed : Some c.args.place ≡ position (is_kept_as name) standings =
     sym (ap (λ (kept : K). position (is_kept_as name) kept.sessions) c.self.view_is ∙ c.requires.place) in
@@ -42,7 +42,7 @@ pub judges_in_room-requires : goal.judges_in_room-requires
 judges_in_room-requires g c =
     let K : Type 0 = Kept g.row.S.Denot in
     let laws = c.sessions_stand_later.ensures in
-    let name : Name = record { key = c.args.key; session = c.args.session } in
+    let name : Name = record { key = c.args.name.key; session = c.args.name.session } in
     let place = c.args.place in
     let moment = c.args.moment in
     let standings = c.self.inside.sessions in
@@ -54,11 +54,11 @@ judges_in_room-requires g c =
     let can = can-lent ring c.self.inside.moment standings place one c.self.invariant.speaking at.1 (c.hears_known-others.ensures.at_place one) in
     record { at = laws.at c.self.inside.moment moment one lt can.at }
 
-pub answers_packet-requires : goal.answers_packet-requires
-answers_packet-requires g c =
+pub answers-sessions-requires : goal.answers-sessions-requires
+answers-sessions-requires g c =
     let K : Type 0 = Kept g.row.S.Denot in
     let laws = c.sessions_stand_later.ensures in
-    let name : Name = record { key = c.args.key; session = c.args.session } in
+    let name : Name = record { key = c.args.name.key; session = c.args.name.session } in
     let place = c.args.place in
     let moment = c.args.moment in
     let standings = c.self.inside.sessions in
@@ -81,7 +81,7 @@ pub with_it_at-requires : goal.with_it_at-requires
 with_it_at-requires g c =
     let K : Type 0 = Kept g.row.S.Denot in
     let laws = c.sessions_stand_later.ensures in
-    let name : Name = record { key = c.args.key; session = c.args.session } in
+    let name : Name = record { key = c.args.name.key; session = c.args.name.session } in
     let place = c.args.place in
     let moment = c.args.moment in
     let standings = c.self.inside.sessions in
@@ -105,7 +105,7 @@ pub invariant_of-self-in-Err : goal.invariant_of-self-in-Err
 invariant_of-self-in-Err g c =
     let K : Type 0 = Kept g.row.S.Denot in
     let laws = c.sessions_stand_later.ensures in
-    let name : Name = record { key = c.args.key; session = c.args.session } in
+    let name : Name = record { key = c.args.name.key; session = c.args.name.session } in
     let place = c.args.place in
     let moment = c.args.moment in
     let standings = c.self.inside.sessions in
@@ -127,7 +127,7 @@ pub returns-in-Err-clause-unchanged_on_memory : goal.returns-in-Err-clause-uncha
 returns-in-Err-clause-unchanged_on_memory g c =
     let K : Type 0 = Kept g.row.S.Denot in
     let laws = c.sessions_stand_later.ensures in
-    let name : Name = record { key = c.args.key; session = c.args.session } in
+    let name : Name = record { key = c.args.name.key; session = c.args.name.session } in
     let place = c.args.place in
     let moment = c.args.moment in
     let standings = c.self.inside.sessions in
@@ -157,7 +157,7 @@ returns-in-Ok-clause-given g c = λ keys server of stands order.
     let D : Type 0 = g.row.D.Denot in
     let K : Type 0 = Kept V in
     let laws = c.sessions_stand_later.ensures in
-    let name : Name = record { key = c.args.key; session = c.args.session } in
+    let name : Name = record { key = c.args.name.key; session = c.args.name.session } in
     let moment = c.args.moment in
     let standings = c.self.inside.sessions in
     let placed : position (is_kept_as name) standings ≡ Some c.args.place = ap (λ (kept : K). position (is_kept_as name) kept.sessions) c.self.view_is ∙ c.requires.place in
@@ -170,7 +170,7 @@ returns-in-Ok-clause-given g c = λ keys server of stands order.
     let are = kept-later laws.later c.self.inside.moment moment standings server.sessions lt inside.sessions in
     let room = sessions-have_room laws.room ring c.self.inside.moment moment standings server.sessions are c.self.invariant.speaking in
     let setting : Setting D = setting_of moment g.D.Draw.step keys in
-    let envelope : Envelope = brought c.args.key c.args.session c.args.outer.now in
+    let envelope : Envelope = brought c.args.name.key c.args.name.session c.args.outer.now in
     let draw = c.args.draw.now in
     let heard : Among D = heard_among setting envelope (begun server draw) in
     let session : Session = heard.speaker.session in
@@ -178,9 +178,9 @@ returns-in-Ok-clause-given g c = λ keys server of stands order.
     let is_heard = c.hears_known-others.ensures.heard setting envelope server draw are placed in
     let alone = c.one_session_stays_alone.ensures.heard setting envelope server draw room order.unfailed in
     let ordered = c.one_session_stays_in_order.ensures.heard setting envelope server draw order in
-    let judged = c.as_slice.result.now in
+    let judged = c.in-Ok.both.1 in
     let taken = c.in-Ok.both.0 in
-    let judged_is : judged ≡ judged_of setting envelope session = c.as_slice.ensures ∙ c.in-Ok.ensures.judged session is_heard.stands in
+    let judged_is : judged ≡ judged_of setting envelope session = c.in-Ok.ensures.judged session is_heard.stands in
     let after = c.in-Ok.ensures.stands session (jobs_of name heard.speaker.jobs) is_heard.stands ordered in
     let jobs_are : c.judges_in_room.new.jobs.jobs ≡ server.jobs = c.in-Ok.ensures.same_jobs ∙ inside.jobs in
     let bindings_are : c.judges_in_room.new.bindings.bindings ≡ server.bindings = c.in-Ok.ensures.same_bindings ∙ inside.bindings in
@@ -206,11 +206,11 @@ returns-in-Ok-clause-given g c = λ keys server of stands order.
           fits-few (blocked_of name server.jobs) (blocked_of name heard.speaker.jobs) (length judged) (length taken.dues.items) taken.limit limit_is
           (heard-blocked setting envelope (session_named name server.sessions) (begun server draw)) (due-few judged bodies taken.dues.items due);
     } in
-    let given = c.answers_packet.ensures.given keys envelope heard of_ring has fits in
+    let given = c.answers-sessions.ensures.given keys envelope heard of_ring has fits in
     let same : after_packet setting envelope server draw ≡ ended_among setting (takes_among setting envelope heard) =
     c.one_session_takes.ensures setting envelope server draw room order.unfailed in
-    let kept_now : K = kept_so c.self.inside.seal moment c.answers_packet.new.sessions c.answers_packet.new.jobs.jobs c.answers_packet.new.bindings.bindings in
-    let R : List RingKey → Type 0 = λ ring. Gives {S = V} {D = D} lock ring kept_now c.answers_packet.new.draw c.answers_packet.result
+    let kept_now : K = kept_so c.self.inside.seal moment c.answers-sessions.result.0 c.answers-sessions.new.jobs.jobs c.answers-sessions.new.bindings.bindings in
+    let R : List RingKey → Type 0 = λ ring. Gives {S = V} {D = D} lock ring kept_now c.answers-sessions.new.draw c.answers-sessions.result.1
     (ended_among setting (takes_among setting envelope heard)) in
-    let G : Answer D → Type 0 = λ answer. Gives {S = V} {D = D} lock (g.S.Seal.keys c.args.self.now.seal) kept_now c.answers_packet.new.draw c.answers_packet.result answer in
+    let G : Answer D → Type 0 = λ answer. Gives {S = V} {D = D} lock (g.S.Seal.keys c.args.self.now.seal) kept_now c.answers-sessions.new.draw c.answers-sessions.result.1 answer in
     subst G (sym same) (subst R same_ring given)

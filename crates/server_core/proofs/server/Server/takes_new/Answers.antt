@@ -1,6 +1,6 @@
 use Rattle.std.proofs.Common.{◌≡◌, ◌∙◌, ◌+◌, ◌≤◌, ℕ, true, None, Result, Ok, Err, List, length, ap, sym, subst, refl, arith}
 use Rattle.std.specs.List.{position}
-use Rattle.std.specs.Prelude.{IsSome, OnErr}
+use Rattle.std.specs.Prelude.{IfOk, IsErrAnd, IsSome, OnErr}
 use Rattle.auth_keys.specs.declared.ring.RingKey.{RingKey}
 use Rattle.auth_keys.specs.Rings.{entry_of}
 use Rattle.inbox.specs.declared.judged.Judgement.{Judgement}
@@ -32,11 +32,11 @@ use Rattle.server_core.proofs.Speaking.{kept-later, none-at, sessions-have_room}
 use Rattle.server_core.proofs.Taken.{due-few}
 use Rattle.server_core.proofs.server.Server.takes_new.Goals as goal
 
-pub answers_packet-requires : goal.answers_packet-requires
-answers_packet-requires g c =
+pub answers-sessions-requires : goal.answers-sessions-requires
+answers-sessions-requires g c =
     let K : Type 0 = Kept g.row.S.Denot in
     let laws = c.sessions_stand_later.ensures in
-    let name : Name = record { key = c.args.key; session = c.args.session } in
+    let name : Name = record { key = c.args.name.key; session = c.args.name.session } in
     let moment = c.args.moment in
     let standings = c.self.inside.sessions in
     let none : position (is_kept_as name) standings ≡ None = ap (λ (kept : K). position (is_kept_as name) kept.sessions) c.self.view_is ∙ c.requires.none in
@@ -47,7 +47,7 @@ answers_packet-requires g c =
     let lt : c.self.inside.moment ≤ moment = subst (λ (old : ℕ). old ≤ moment) (sym (ap (λ (kept : K). kept.moment) c.self.view_is)) c.requires.later in
     let named_so : name_kept one ≡ name = name-by (name_kept one) name c.in_ok-standing.ensures.key c.in_ok-standing.ensures.number in
     let after : SessionState = c.judges_in_room.new.standing in
-    let R : List RingKey → Type 0 = λ ring. IsSome (entry_of c.args.key ring) in
+    let R : List RingKey → Type 0 = λ ring. IsSome (entry_of c.args.name.key ring) in
     let T : ℕ → Type 0 = λ key. IsSome (entry_of key ring) in
     let J : ℕ → Type 0 = λ jobs. CanTake after jobs c.judges_in_room.new.bindings.room c.in_ok-both.both.0 in
     let can : CanSpeak ring moment one = record {
@@ -81,13 +81,22 @@ returns-in_err-others-clause-unchanged_on_memory g c =
     ∙ (ap (λ (jobs : Queue). kept_so seal moment standings jobs bindings) c.in_ok-both.ensures.same_jobs
     ∙ (ap (λ (bindings : List Binding). kept_so seal moment standings c.self.inside.jobs.jobs bindings) c.in_ok-both.ensures.same_bindings ∙ c.self.view_is))))
 
+-- what fails gives nothing to hold of
+none-given : {T E : Type 0} (Q : E → Type 0) (P : T → Type 0) (result : Result T E) → IsErrAnd result Q → IfOk result P
+none-given Q P (Ok value) is = absurd is
+none-given Q P (Err error) is = tt
+
+pub returns-in_err-others-clause-given : goal.returns-in_err-others-clause-given
+returns-in_err-others-clause-given g c = λ keys server of stands order.
+    none-given _ _ c.from_residual-in_err-others.result c.from_residual-in_err-others.ensures.1
+
 pub returns-clause-given : goal.returns-clause-given
 returns-clause-given g c = λ keys server of stands order.
     let V : Type 0 = g.row.S.Denot in
     let D : Type 0 = g.row.D.Denot in
     let K : Type 0 = Kept g.row.S.Denot in
     let laws = c.sessions_stand_later.ensures in
-    let name : Name = record { key = c.args.key; session = c.args.session } in
+    let name : Name = record { key = c.args.name.key; session = c.args.name.session } in
     let moment = c.args.moment in
     let standings = c.self.inside.sessions in
     let none : position (is_kept_as name) standings ≡ None = ap (λ (kept : K). position (is_kept_as name) kept.sessions) c.self.view_is ∙ c.requires.none in
@@ -104,13 +113,13 @@ returns-clause-given g c = λ keys server of stands order.
     let room = sessions-have_room laws.room ring c.self.inside.moment moment standings server.sessions are c.self.invariant.speaking in
     let unnamed = none-at laws.name c.self.inside.moment name standings server.sessions inside.sessions outside in
     let setting : Setting D = setting_of moment g.D.Draw.step keys in
-    let envelope : Envelope = brought c.args.key c.args.session c.args.outer.now in
+    let envelope : Envelope = brought c.args.name.key c.args.name.session c.args.outer.now in
     let draw = c.args.draw.now in
     let state : State D = begun server draw in
     let heard : Among D = heard_among setting envelope state in
     let session : Session = heard.speaker.session in
     let outer = c.args.outer.now in
-    let judged = c.as_slice.result.now in
+    let judged = c.in_ok-both.both.1 in
     let taken = c.in_ok-both.both.0 in
     let same_jobs : c.judges_in_room.new.jobs.jobs ≡ server.jobs = c.in_ok-both.ensures.same_jobs ∙ inside.jobs in
     let same_bindings : c.judges_in_room.new.bindings.bindings ≡ server.bindings = c.in_ok-both.ensures.same_bindings ∙ inside.bindings in
@@ -119,7 +128,7 @@ returns-clause-given g c = λ keys server of stands order.
     (c.in_ok-standing.ensures.stands keys outer.salt outer.seq outer.body) c.in_ok-standing.ensures.drawn in
     let alone = c.one_session_stays_alone.ensures.heard setting envelope server draw room order.unfailed in
     let ordered = c.one_session_stays_in_order.ensures.heard setting envelope server draw order in
-    let judged_is : judged ≡ judged_of setting envelope session = c.as_slice.ensures ∙ c.in_ok-both.ensures.judged session is_heard.stands in
+    let judged_is : judged ≡ judged_of setting envelope session = c.in_ok-both.ensures.judged session is_heard.stands in
     let after = c.in_ok-both.ensures.stands session (jobs_of name heard.speaker.jobs) is_heard.stands ordered in
     let has = judged-so setting envelope c.in_ok-others.others one c.judges_in_room.new.standing c.makes_place.new.jobs.jobs c.makes_place.new.jobs.jobs
     server.bindings c.judges_in_room.new.bindings.bindings c.new.new.draw judged heard is_heard after refl same_bindings judged_is alone ordered in
@@ -142,11 +151,11 @@ returns-clause-given g c = λ keys server of stands order.
           fits-few (blocked_of name server.jobs) (blocked_of name heard.speaker.jobs) (length judged) (length taken.dues.items) taken.limit limit_is
           (heard-blocked setting envelope (session_named name server.sessions) state) (due-few judged bodies taken.dues.items due);
     } in
-    let given = c.answers_packet.ensures.given keys envelope heard of_ring has fits in
+    let given = c.answers-sessions.ensures.given keys envelope heard of_ring has fits in
     let same : after_packet setting envelope server draw ≡ ended_among setting (takes_among setting envelope heard) =
     c.one_session_takes.ensures setting envelope server draw room order.unfailed in
-    let kept_now : K = kept_so c.self.inside.seal moment c.answers_packet.new.sessions c.answers_packet.new.jobs.jobs c.answers_packet.new.bindings.bindings in
-    let R : List RingKey → Type 0 = λ ring. Gives {S = V} {D = D} lock ring kept_now c.answers_packet.new.draw c.answers_packet.result
+    let kept_now : K = kept_so c.self.inside.seal moment c.answers-sessions.result.0 c.answers-sessions.new.jobs.jobs c.answers-sessions.new.bindings.bindings in
+    let R : List RingKey → Type 0 = λ ring. Gives {S = V} {D = D} lock ring kept_now c.answers-sessions.new.draw c.answers-sessions.result.1
     (ended_among setting (takes_among setting envelope heard)) in
-    let G : Answer D → Type 0 = λ answer. Gives {S = V} {D = D} lock (g.S.Seal.keys c.args.self.now.seal) kept_now c.answers_packet.new.draw c.answers_packet.result answer in
+    let G : Answer D → Type 0 = λ answer. Gives {S = V} {D = D} lock (g.S.Seal.keys c.args.self.now.seal) kept_now c.answers-sessions.new.draw c.answers-sessions.result.1 answer in
     subst G (sym same) (subst R same_ring given)

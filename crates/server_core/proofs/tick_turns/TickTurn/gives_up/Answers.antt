@@ -17,7 +17,7 @@ pub returns-clause-speaks : goal.returns-clause-speaks
 returns-clause-speaks g c = λ d keys bindings draw speaker unanswered speaks.
     let D : Type 0 = g.row.D.Denot in
     let now = c.args.now in
-    let said : Speaker D = gives_up (setting_of now g.D.Draw.step keys) (content_of c.args.short) c.args.job speaker in
+    let said : Speaker D = gives_up (setting_of now g.D.Draw.step keys) (content_of c.args.given_up.short) c.args.given_up.job speaker in
     let P : Held → Type 0 = λ entries. Speaks {S = D} now (slice_index_or c.args.sessions.now c.args.place d) (record { owing = c.args.self.now.turn.owing; entries = entries })
     c.args.jobs.now.jobs bindings draw speaker in
     let Q : Held → Type 0 = λ entries. Speaks {S = D} now (slice_index_or c.gives_up.new.self c.args.place d) (record { owing = c.gives_up.new.turn.owing; entries = entries })

@@ -3,4 +3,4 @@ use Rattle.server_session.proofs.UnsaidLemmas.{none-more, said-more}
 use Rattle.server_session.proofs.session.SessionState.says_it_is_new.Goals as goal
 
 pub returns-clause-unsaid : goal.returns-clause-unsaid
-returns-clause-unsaid g c = none-more c.args.self.now _ c.args.owing.now _ refl (said-more _ _ _ c.new_session.ensures.owed)
+returns-clause-unsaid g c = none-more c.args.self.now _ c.args.owing.now _ refl (said-more _ _ _ c.say.ensures.owed)
