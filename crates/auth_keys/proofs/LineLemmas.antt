@@ -1,13 +1,12 @@
 -- Lines of a text.
-use Rattle.std.proofs.Common.{◌≡◌, ◌≢◌, ◌∙◌, ℕ, suc, ◌+◌, ◌-◌, ◌<◌, ◌≤◌, List, [], ◌∷◌, ◌++◌, length, get_or, take, drop, All, true, false, ap, sym, subst, refl, arith, add-one, drop-cons}
+use Rattle.std.proofs.Common.{◌≡◌, ◌≢◌, ◌∙◌, ℕ, suc, ◌+◌, ◌-◌, ◌<◌, ◌≤◌, List, [], ◌∷◌, ◌++◌, length, get_or, take, drop, All, ap, sym, subst, refl, arith, add-one, drop-cons}
 use Rattle.std.proofs.lemmas.List.{take-append-drop, take_all, get_or-take, get_or_default}
 use Rattle.std.proofs.lemmas.List.{length-take-le}
 use Rattle.std.proofs.Math.Seq.{drop-length}
 use Rattle.std.proofs.lemmas.List.{length-drop}
 use Rattle.std.proofs.lemmas.List.Elements.{All-head, All-tail}
 use Rattle.std.proofs.lemmas.Bool.{ne_eqb, cond-false}
-use Rattle.auth_keys.specs.KeyFile.{lines_of, onto_first, is_blank}
-use Rattle.auth_keys.specs.Words.{IsCut}
+use Rattle.auth_keys.specs.KeyFile.{lines_of, onto_first}
 
 -- a list round its member at a place
 pub parted : (xs : List ℕ) (place byte : ℕ) → place < length xs → get_or xs place 0 ≡ byte → xs ≡ take place xs ++ byte ∷ drop (place + 1) xs
@@ -24,18 +23,6 @@ none_before P xs place within h = λ k d less.
 -- all members pass
 pub none_at_all : (P : ℕ → Type 0) (xs : List ℕ) → ((k : ℕ) → k < length xs → P (get_or xs k 0)) → All P xs
 none_at_all P xs h = λ k d less. subst P (sym (get_or_default xs k d 0 less)) (h k less)
-
--- a text cut at its first blank
-pub cut-at : (text : List ℕ) (place : ℕ) → place < length text → is_blank (get_or text place 0) ≡ true → ((k : ℕ) → k < place → is_blank (get_or text k 0) ≡ false)
-    → IsCut text (take place text) (take (length text - (place + 1)) (drop (place + 1) text))
-cut-at text place within at before =
-    let rest : take (length text - (place + 1)) (drop (place + 1) text) ≡ drop (place + 1) text = take_all _ _ (omega (arith, length-drop (place + 1) text)) in
-    record {
-      no_blank = none_before (λ b. is_blank b ≡ false) text place (omega arith) before;
-      blank = get_or text place 0;
-      is = at;
-      whole = parted text place (get_or text place 0) within refl ∙ ap (λ xs. take place text ++ get_or text place 0 ∷ xs) (sym rest);
-    }
 
 -- a line and its newline, before the lines that follow
 pub lines_of-line : (line rest : List ℕ) → All (λ b. b ≢ 10) line → lines_of (line ++ 10 ∷ rest) ≡ line ∷ lines_of rest

@@ -1,5 +1,5 @@
 -- The living numbers beside the rows.
-use Rattle.std.proofs.Common.{◌≡◌, ◌≢◌, ◌∙◌, ℕ, zero, suc, ◌+◌, ◌<◌, ◌≤◌, true, false, eqb, Option, Some, None, List, [], ◌∷◌, ◌++◌, map, length, set, get_or, ap, refl, sym, subst, inl, inr, arith}
+use Rattle.std.proofs.Common.{◌≡◌, ◌≢◌, ◌∙◌, ℕ, zero, suc, ◌+◌, ◌<◌, true, false, eqb, Option, Some, None, List, [], ◌∷◌, ◌++◌, map, length, set, get_or, ap, refl, sym, subst, inl, inr, arith}
 use Rattle.std.specs.Prelude.{IfSome}
 use Rattle.std.specs.List.{AllByRecursion}
 use Rattle.std.proofs.lemmas.Bool.{cases_eq, eq-eqb, ne_eqb}
@@ -112,10 +112,6 @@ indexed_sent rows names k y one at within none is below h =
     }
 
 -- ---- one name less
-
-found_above : (number floor : ℕ) (names : List Named) → number ≤ floor → IsAbove floor (map number_of names) → found number names ≡ None
-found_above number floor [] le h = refl
-found_above number floor (one ∷ names) le h = let e : eqb one.number number ≡ false = ne_eqb one.number number (λ same. omega (arith, h.0)) in rw e (found_above number floor names le h.1)
 
 found_without : (number other : ℕ) (names : List Named) → other ≢ number → found other (without number names) ≡ found other names
 found_without number other [] apart = refl

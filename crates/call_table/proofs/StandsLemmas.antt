@@ -16,7 +16,7 @@ use Rattle.call_table.specs.declared.row.Progress.{Progress}
 use Rattle.call_table.specs.declared.row.Progress.TheVariants as progress
 use Rattle.call_table.specs.declared.row.Row.{Row}
 use Rattle.call_table.specs.Table.{State, Name, Call, Table, new_call, added, is_queued, is_sent, is_held, living_name_in, living_name, under_others, under_of, sent, sent_again, with_salt, state_after, settled, flagged, changed_at, places_from, first_from, is_number_of, is_in}
-use Rattle.call_table.specs.Kept.{Contents, state_of, living_in, under_in, number_in, is_row_in, passes, is_number, new_row, under_again, sent_row, progress_again, again_row, progress_after, settled_row, flagged_row, IsProgressOf, IsRowOf, IsBelow, Stands}
+use Rattle.call_table.specs.Kept.{Contents, state_of, living_in, under_in, number_in, is_row_in, is_number, new_row, under_again, sent_row, progress_again, again_row, progress_after, settled_row, flagged_row, IsProgressOf, IsRowOf, IsBelow, Stands}
 
 -- ---- lists that agree
 
@@ -47,13 +47,6 @@ zip_told R f g same k (x ∷ xs) [] h = absurd h
 zip_told R f g same zero (x ∷ xs) (y ∷ ys) h = ap Some (same x y h.0)
 zip_told R f g same (suc k) (x ∷ xs) (y ∷ ys) h = zip_told R f g same k xs ys h.1
 
-pub zip_passes : {X Y : Type 0} (R : X → Y → Type 0) (f : X → Bool) (g : Y → Bool) → ((x : X) (y : Y) → R x y → f x ≡ g y) → (k : ℕ) (xs : List X) (ys : List Y) → AllZip R xs ys → passes f (slice_get xs k) ≡ passes g (slice_get ys k)
-zip_passes R f g same k [] [] h = refl
-zip_passes R f g same k [] (y ∷ ys) h = absurd h
-zip_passes R f g same k (x ∷ xs) [] h = absurd h
-zip_passes R f g same zero (x ∷ xs) (y ∷ ys) h = same x y h.0
-zip_passes R f g same (suc k) (x ∷ xs) (y ∷ ys) h = zip_passes R f g same k xs ys h.1
-
 pub zip_first : {X Y : Type 0} (R : X → Y → Type 0) (f : X → Bool) (g : Y → Bool) → ((x : X) (y : Y) → R x y → f x ≡ g y) → (first : ℕ) (xs : List X) (ys : List Y) → AllZip R xs ys → first_from f first xs ≡ first_from g first ys
 zip_first R f g same first [] [] h = refl
 zip_first R f g same first [] (y ∷ ys) h = absurd h
@@ -76,11 +69,6 @@ pub told_at : {X Z : Type 0} (f : X → Z) (k : ℕ) (xs : List X) (x : X) → k
 told_at f k [] x within is = absurd (omega arith)
 told_at f zero (x' ∷ xs) x within is = ap (λ z. Some (f z)) (sym is)
 told_at f (suc k) (x' ∷ xs) x within is = told_at f k xs x (omega arith) is
-
-pub passes_at : {X : Type 0} (f : X → Bool) (k : ℕ) (xs : List X) (x : X) → k < length xs → x ≡ get_or xs k x → passes f (slice_get xs k) ≡ f x
-passes_at f k [] x within is = absurd (omega arith)
-passes_at f zero (x' ∷ xs) x within is = ap f (sym is)
-passes_at f (suc k) (x' ∷ xs) x within is = passes_at f k xs x (omega arith) is
 
 -- ---- what a row tells of its call
 

@@ -5,6 +5,7 @@ ghost use Rattle.msg_key.specs.Keys.{IsX};
 ghost use Rattle.envelope.specs.Lock.{ByteLaws, x_of, mt_lock, clear_lock};
 
 use crate::parts::Dir;
+use aes_core::Key256;
 use auth_keys::AuthKey;
 use cipher_modes::{ige_decrypt, ige_encrypt, laws as of_modes};
 use msg_key::{DOWN, UP, aes_of, laws as of_keys, msg_key};
@@ -62,12 +63,12 @@ impl Cipher for MtCipher {
 
     fn lock(key: &AuthKey, dir: Dir, message_key: &[u8; 16], text: &mut [u8]) {
         let (cipher_key, iv) = aes_of(key, x_of(dir), message_key);
-        ige_encrypt(&cipher_key, &iv, text);
+        ige_encrypt(&Key256::new(&cipher_key), &iv, text);
     }
 
     fn unlock(key: &AuthKey, dir: Dir, message_key: &[u8; 16], text: &mut [u8]) {
         let (cipher_key, iv) = aes_of(key, x_of(dir), message_key);
-        ige_decrypt(&cipher_key, &iv, text);
+        ige_decrypt(&Key256::new(&cipher_key), &iv, text);
     }
 
     fn lawful() {

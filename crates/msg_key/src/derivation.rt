@@ -5,7 +5,6 @@ ghost use Rattle.std.specs.Prelude.{◌≡◌, ◌++◌};
 ghost use Rattle.auth_keys.specs.Keys.{substr};
 ghost use Rattle.msg_key.specs.Keys.{IsX, message_key, aes_key, aes_iv};
 
-use aes_core::Key256;
 use auth_keys::AuthKey;
 use sha2::{Digest, Sha256};
 
@@ -28,11 +27,11 @@ pub fn msg_key(key: &AuthKey, x: usize, plain: &[u8]) -> [u8; 16]
     msg_key
 }
 
-/// The key of AES-256 and the initialisation vector of infinite garble extension for the text of a packet with this
-/// message key (core.telegram.org/mtproto/description, "Defining AES Key and Initialization Vector"). `x` is [`UP`] or
-/// [`DOWN`].
+/// The 32 bytes of the key of AES-256, and the initialisation vector of infinite garble extension, for the text of a
+/// packet with this message key (core.telegram.org/mtproto/description, "Defining AES Key and Initialization Vector").
+/// `x` is [`UP`] or [`DOWN`].
 #[tactic(auto, unfolding(crate::specs::Keys::aes_key, crate::specs::Keys::aes_iv))]
-pub fn aes_of(key: &AuthKey, x: usize, msg_key: &[u8; 16]) -> (Key256, [u8; 32])
+pub fn aes_of(key: &AuthKey, x: usize, msg_key: &[u8; 16]) -> ([u8; 32], [u8; 32])
     requires { IsX x }
     ensures key { result.0 ≡ aes_key key.now x msg_key.now }
     ensures iv { result.1 ≡ aes_iv key.now x msg_key.now }
@@ -40,7 +39,7 @@ pub fn aes_of(key: &AuthKey, x: usize, msg_key: &[u8; 16]) -> (Key256, [u8; 32])
     let key = key.bytes();
     let a = digest(msg_key, &key[x..36 + x]);
     let b = digest(&key[40 + x..76 + x], msg_key);
-    (Key256::new(&three_parts(&a, &b)), three_parts(&b, &a))
+    (three_parts(&a, &b), three_parts(&b, &a))
 }
 
 // The digest of two texts as one.

@@ -50,10 +50,6 @@ reached_rest seed entries gate at file r =
     omega (arith, length-append (front seed entries) (gate ∷ []), length-front seed entries r.seeded, r.place) in
     ap (drop at) whole ∙ drop_at (front seed entries ++ gate ∷ []) r.rest at long
 
-pub reached_inside : (seed : List ℕ) (entries : List Record) (gate at : ℕ) (file : List ℕ) → Reached seed entries gate at file → at ≤ length file
-reached_inside seed entries gate at file r =
-    omega (arith, ap length (reached_parts seed entries gate at file r), length-append (front seed entries) (gate ∷ r.rest), length-front seed entries r.seeded, r.place)
-
 -- ---- one more record
 
 pub reached_more : (seed : List ℕ) (entries : List Record) (at : ℕ) (file : List ℕ) (entry : Record) (gate : ℕ) (rest : List ℕ) (next : ℕ) → IsRecord entry

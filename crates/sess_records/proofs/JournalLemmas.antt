@@ -1,12 +1,11 @@
 -- What the calls of journals and openings come to, where their disks tell.
 use Rattle.std.proofs.Common.{◌≡◌, ◌≢◌, ◌≤◌, ◌<◌, ◌+◌, ◌-◌, ◌^◌, ◌∙◌, ℕ, List, [], ◌∷◌, ◌++◌, length, take, drop, get_or, ◌⊎◌, inl, inr, arith, subst, sym, ap, ap₂, refl, append_assoc, Option, Some, None}
 use Rattle.std.specs.Prelude.{IfSome, IsSomeAnd}
-use Rattle.std.proofs.lemmas.List.{append-nil, drop-take, drop_all, drop_more, length-append, length-take-le, take-append-drop, take-take, take_at}
+use Rattle.std.proofs.lemmas.List.{append-nil, drop_all, drop_more, length-append, length-take-le, take-append-drop, take-take, take_at}
 use Rattle.std.proofs.lemmas.List.Elements.{All-nil, All-push}
 use Rattle.mt_edge.specs.declared.act.Act.{Act}
 use Rattle.mt_edge.specs.declared.act.Act.TheVariants.{Ready, Failed}
 use Rattle.std.proofs.lemmas.Bool.{cases_lt}
-use Rattle.mt_edge.specs.Acts.{Counts}
 use Rattle.mt_edge.specs.Faults.{Rose, one_more}
 use Rattle.disks.specs.Crash.{MayLeave, synced_at}
 use Rattle.disks.specs.Told.{DiskTold, now}
@@ -358,10 +357,6 @@ pub unfit_kind_told : (at count : ℕ) (head : Head) (old : Option DiskTold) →
 unfit_kind_told at count head None h size none q = tt
 unfit_kind_told at count head (Some file) h size none q = unfit_kind (drop at file.contents) head count h size q none
 
-pub rose_failed : (answer : Act) (before after : ℕ) → Counts answer before after → answer ≡ Failed → Rose before after
-rose_failed Ready before after counts e = absurd (cc e)
-rose_failed Failed before after counts e = rose before after counts
-
 -- ---- reading a header
 
 -- what a call that made sure of a disk leaves, where nothing was changed since
@@ -376,10 +371,6 @@ pub sure_same : (old mid new : Option DiskTold) → new ≡ mid → Sured Ready 
 sure_same None mid new e p = tt
 sure_same (Some before) None new e p = absurd p
 sure_same (Some before) (Some between) new e p = subst (λ (x : Option DiskTold). IsSomeAnd x (λ after. after.contents ≡ before.contents)) (sym e) (p.done refl).contents
-
-pub seed_read : (header seed : List ℕ) → take 8 header ≡ magic → seed ≡ take 32 (drop 8 header) → take 40 header ≡ magic ++ seed
-seed_read header seed front s =
-    sym (take-append-drop 8 (take 40 header)) ∙ ap₂ (λ (a b : List ℕ). a ++ b) (take-take 8 40 header (omega arith) ∙ front) (drop-take 8 32 header ∙ sym s)
 
 -- a header behind which anything stands
 header_parts : (file header seed : List ℕ) → length header ≡ 41 → header ≡ take 41 (drop 0 file) → take 40 header ≡ magic ++ seed → file ≡ magic ++ (seed ++ get_or header 40 0 ∷ drop 41 file)

@@ -269,32 +269,9 @@ appended_settled answer bytes (Some before) (Some between) (Some after) p q = λ
           (weaker between after (λ left. left ≡ between.contents) (StartsWith base) (λ left e. (bytes, e ∙ here)) q.leaves);
     }
 
--- the length after a write, where the disk tells
-abbrev pub Grows : ℕ → ℕ → Option DiskTold → Option DiskTold → Type 0
-Grows end count old new = IfSome old (λ before. IsSomeAnd new (λ after. length after.contents ≡ end + count))
-
 -- a disk that tells goes on, and one that doesn't never begins
 abbrev pub Tells : Option DiskTold → Option DiskTold → Type 0
 Tells old new = is_some new ≡ is_some old
-
-pub end_grown : (end count next : ℕ) (old new : Option DiskTold) → Tells old new → Grows end count old new → next ≡ end + count → IfSome new (λ after. next ≡ length after.contents)
-end_grown end count next None None t p e = tt
-end_grown end count next None (Some after) t p e = absurd (cc t)
-end_grown end count next (Some before) None t p e = tt
-end_grown end count next (Some before) (Some after) t p e = e ∙ sym p
-
-pub settled_grown : (answer : Act) (end count more : ℕ) (old mid new : Option DiskTold) → Grows end count old mid → Sured answer mid new → answer ≡ Ready → more ≡ end + count
-    → IfSome old (λ before. IsSomeAnd new (λ after. length after.contents ≡ more))
-settled_grown answer end count more None mid new p q r e = tt
-settled_grown answer end count more (Some before) None new p q r e = absurd p
-settled_grown answer end count more (Some before) (Some between) None p q r e = absurd q
-settled_grown answer end count more (Some before) (Some between) (Some after) p q r e = ap length (q.done r).contents ∙ p ∙ sym e
-
-pub two_grown : (end first count : ℕ) (old mid new : Option DiskTold) → Grows end first old mid → Grows (end + first) count mid new → Grows (end + first) count old new
-two_grown end first count None mid new p q = tt
-two_grown end first count (Some before) None new p q = absurd p
-two_grown end first count (Some before) (Some between) None p q = absurd q
-two_grown end first count (Some before) (Some between) (Some after) p q = q
 
 -- ---- a gate and a cut, made sure of
 
@@ -372,11 +349,6 @@ grown_inside gate total None None t p h = tt
 grown_inside gate total None (Some after) t p h = absurd (cc t)
 grown_inside gate total (Some before) None t p h = tt
 grown_inside gate total (Some before) (Some after) t p h = omega (arith, p, h)
-
--- a range inside a file whose length is known
-pub inside_told : (at count len : ℕ) (old : Option DiskTold) → IfSome old (λ file. len ≡ length file.contents) → at + count ≤ len → IfSome old (λ file. at + count ≤ length file.contents)
-inside_told at count len None p h = tt
-inside_told at count len (Some file) p h = omega (arith, p, h)
 
 pub end_inside : (end len : ℕ) (old : Option DiskTold) → IfSome old (λ file. len ≡ length file.contents) → end ≤ len → IfSome old (λ file. end ≤ length file.contents)
 end_inside end len None p h = tt

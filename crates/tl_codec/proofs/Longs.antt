@@ -1,6 +1,5 @@
 -- Numbers of 8 bytes each, one after the other.
-use Rattle.std.proofs.Common.{◌≡◌, ℕ, zero, suc, ◌+◌, ◌-◌, ◌<◌, ◌≤◌, List, [], ◌∷◌, ◌++◌, take, drop, sym, append_assoc, arith}
-use Rattle.std.proofs.lemmas.List.{append-nil}
+use Rattle.std.proofs.Common.{◌≡◌, ℕ, zero, suc, ◌+◌, ◌-◌, ◌<◌, List, [], ◌∷◌, ◌++◌, take, drop, sym, append_assoc, arith}
 use Rattle.byteorder.specs.Endian.{little_number}
 use Rattle.byteorder.specs.Numbers.{little_from-take, little_from-lt}
 use Rattle.octets.specs.Bytes.{IsBytes, AreLongs}
@@ -14,12 +13,6 @@ longs_more numbers left count i lt =
     let more : count - i ≡ suc (count - (i + 1)) = omega arith in
     let same : little_number 8 (take 8 left) ≡ little_number 8 left = little_from-take 0 8 8 left (omega arith) in
     rw (more, same) (sym (append_assoc numbers (little_number 8 left ∷ []) (longs_in (count - (i + 1)) (drop 8 left))))
-
--- all were read
-pub longs_done : (numbers : List ℕ) (left : List ℕ) (count i : ℕ) → count ≤ i → numbers ++ longs_in (count - i) left ≡ numbers
-longs_done numbers left count i le =
-    let none : count - i ≡ 0 = omega arith in
-    rw none (append-nil numbers)
 
 -- what 8 bytes hold is a `long`
 pub AreLongs-longs_in : (count : ℕ) (bytes : List ℕ) → IsBytes bytes → AreLongs (longs_in count bytes)

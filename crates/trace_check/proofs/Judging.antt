@@ -1,21 +1,19 @@
 -- What lines of a trace say of calls and entries.
-use Rattle.std.proofs.Common.{◌≡◌, ◌∙◌, ℕ, ◌<◌, ◌≤◌, nat_lt, true, false, ◌↔◌, List, length, Option, Some, None, inl, inr, refl, sym, subst, arith}
+use Rattle.std.proofs.Common.{◌≡◌, ◌∙◌, ℕ, ◌<◌, true, false, ◌↔◌, List, length, Option, Some, None, inl, inr, refl, sym, subst, arith}
 use Rattle.std.proofs.lemmas.Option.{slice_get_within}
-use Rattle.std.proofs.lemmas.Bool.{cases_lt, ltb-true, lt-ltb}
+use Rattle.std.proofs.lemmas.Bool.{cases_lt}
 use Rattle.trace_check.specs.declared.numbered.Numbered.{Numbered}
 use Rattle.trace_check.specs.declared.fact.Fact.{Fact}
 use Rattle.trace_check.specs.declared.fact.Fact.TheVariants as fact
 use Rattle.trace_check.specs.declared.fact.Entry.{Entry}
-use Rattle.trace_check.specs.declared.fact.Told.{Told}
 use Rattle.trace_check.specs.declared.table.Row.{Row}
 use Rattle.trace_check.specs.declared.sentence.Sentence.TheVariants as sentence
-use Rattle.trace_check.specs.Indexes.{Stands, IsRow, row_before}
+use Rattle.trace_check.specs.Indexes.{Stands, IsRow}
 use Rattle.trace_check.specs.Facts.{At}
 use Rattle.trace_check.specs.Lawful.{IsTrace}
-use Rattle.trace_check.specs.Sentences.{DoesWait, IsEntryOf, IsNameOf, Keeps, RanOnce, WasAsked}
-use Rattle.trace_check.specs.Books.{AreCallers, AreEntries, AreEntriesAt, HasBody, HasReplied, IsCallerAt, IsWaiting}
-use Rattle.trace_check.proofs.Steps.{not_equal}
-use Rattle.trace_check.proofs.Marking.{one_body, one_name, one_state, same_fact}
+use Rattle.trace_check.specs.Sentences.{IsEntryOf, IsNameOf, Keeps, RanOnce, WasAsked}
+use Rattle.trace_check.specs.Books.{AreCallers, AreEntries, AreEntriesAt, HasBody, HasReplied, IsCallerAt}
+use Rattle.trace_check.proofs.Marking.{one_name, same_fact}
 
 -- ---- equivalences
 
@@ -27,9 +25,6 @@ yes a = (λ e. a, λ b. refl)
 
 pub no : {A : Type 0} → (A → ⊥) → (false ≡ true) ↔ A
 no not = (λ e. absurd cc, λ a. absurd (not a))
-
-pub not_less : (m n : ℕ) → n ≤ m → nat_lt m n ≡ false
-not_less m n h = not_equal (nat_lt m n) (λ t. let less = ltb-true m n t in omega (arith, h, less))
 
 -- ---- entries and their calls
 
@@ -63,21 +58,6 @@ entries_row facts keys call (Some row) callers whole is =
 pub first_none : (facts : List Fact) (place : ℕ) → IsCallerAt facts place None → Keeps sentence.AtMostOnce facts place
 first_none facts place none = λ call entry is earlier one less other. none call entry is
 
-pub first_some : (facts : List Fact) → IsTrace facts → (place : ℕ) (call : Numbered) (row : Option Row) → IsCallerAt facts place (Some call) → AreEntries facts call row
-    → (row_before row place ≡ false) ↔ Keeps sentence.AtMostOnce facts place
-first_some facts trace place call None is entries = (λ e. absurd (entries (place, is)), λ k. refl)
-first_some facts trace place call (Some row) is entries = (
-  λ e d entry at earlier one less other.
-      let same : d ≡ call = same_call facts trace place d call entry is.0 at is.1 in
-      let least = entries.least earlier one (subst (λ (c : Numbered). IsEntryOf facts c earlier one) same other) in
-      let apart : row.first < place → ⊥ = λ before. let t = lt-ltb row.first place before in cc in
-      apart (omega (arith, least, less)),
-  λ keeps. elim (cases_lt row.first place) [
-    | inl less ↦ absurd (keeps call is.0 is.1 row.first entries.first.0 less entries.first.1)
-    | inr more ↦ not_less row.first place more
-  ],
-)
-
 -- ---- what was asked
 
 pub asked_call : (facts : List Fact) → IsTrace facts → (call : Numbered) (entry : Entry) → IsNameOf facts call entry.name → HasBody facts call entry.request ↔ WasAsked facts entry
@@ -91,12 +71,6 @@ asked_call facts trace call entry named = (
 pub asked_at : (facts : List Fact) (place : ℕ) (entry : Entry) → At facts place (fact.Entry entry) → WasAsked facts entry ↔ Keeps sentence.AsSent facts place
 asked_at facts place entry at =
     (λ was other is. subst (λ (e : Entry). WasAsked facts e) (same_entry facts place entry other at is) was, λ keeps. keeps entry at)
-
-pub the_body : (facts : List Fact) → IsTrace facts → (place : ℕ) (call : Numbered) (body request : List ℕ) → At facts place (fact.Body call body) → (body ≡ request) ↔ HasBody facts call request
-the_body facts trace place call body request at = (
-  λ e. (place, subst (λ (b : List ℕ). At facts place (fact.Body call b)) e at),
-  λ has. one_body facts trace place has.0 call body request at has.1,
-)
 
 -- ---- a call that is done
 
@@ -117,13 +91,3 @@ only_row facts call row reply rows = (
       let last = ran.only row.last rows.last.0 rows.last.1 in
       (first ∙ sym last, (ran.entry, subst (λ (p : ℕ). At facts p (fact.Entry ran.entry)) (sym first) ran.is.at, ran.replied)),
 )
-
-pub replied_at : (facts : List Fact) (place : ℕ) (entry : Entry) (reply : List ℕ) → At facts place (fact.Entry entry) → (entry.reply ≡ reply) ↔ HasReplied facts place reply
-replied_at facts place entry reply at =
-    (λ e. (entry, at, e), λ has. subst (λ (e : Entry). e.reply ≡ reply) (same_entry facts place has.0 entry has.1 at) has.2)
-
--- ---- replaced names
-
-pub waiting_state : (facts : List Fact) → IsTrace facts → (place : ℕ) (call : Numbered) (told : Told) → At facts place (fact.State call told) → DoesWait told ↔ IsWaiting facts call
-waiting_state facts trace place call told at =
-    (λ does. (place, told, at, does), λ is. subst DoesWait (one_state facts trace is.0 place call is.1 told is.2 at) is.3)

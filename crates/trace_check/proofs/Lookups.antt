@@ -69,10 +69,6 @@ pub no_row : (keys : List (Option Numbered)) (key : Numbered) (o : Option Row) �
 no_row keys key None e h s = h s.0 s.1
 no_row keys key (Some row) e h s = cc
 
-read_at : (facts : List Fact) (place : ℕ) (f : Fact) (o : Option (Bor Fact)) → option_copied o ≡ slice_get facts place → At facts place f → (b : Bor Fact) × (o ≡ Some b) × (b.now ≡ f)
-read_at facts place f None e at = absurd cc
-read_at facts place f (Some b) e at = (b, refl, cc)
-
 pub first_fact : (by : By) (facts : List Fact) (key : Numbered) (row : Row) (o : Option (Bor Fact)) → IsRow (map (key_of by) facts) key (Some row) → option_copied o ≡ slice_get facts row.first
     → MatchOption o (IsMarked by facts key → ⊥) (λ f. (place : ℕ) × At facts place f.now × (key_of by f.now ≡ Some key))
 first_fact by facts key row None h e = let f = marks_fact by facts key row.first h.0.stands in let at = f.1 in absurd cc

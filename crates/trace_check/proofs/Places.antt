@@ -106,10 +106,6 @@ row_noted keys key (Some row) place e is =
 
 -- ---- maps
 
--- a member with no key changes nothing
-pub noted_none : (rows : BTreeMap Numbered Row) (keys : List (Option Numbered)) → Indexes rows keys → Indexes rows (keys ++ None ∷ [])
-noted_none rows keys h key = row_kept keys None key (get key_cmp rows key) (λ e. cc) (h key)
-
 -- what a row becomes where a test says whether it is the key's
 noted_at : (keys : List (Option Numbered)) (key q : Numbered) (place first : ℕ) (row : Option Row) (new : Option Row) (b : Bool) → is_eq (key_cmp key q) ≡ b → length keys ≡ place
     → (key ≡ q → first ≡ first_of_row row place) → new ≡ cond b (Some (record { first = first; last = place })) row → IsRow keys q row → IsRow (keys ++ Some key ∷ []) q new

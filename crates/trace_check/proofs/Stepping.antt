@@ -60,11 +60,6 @@ when_not : (a b : Bool) (x y : Sums) → b ≡ false → cond (a && b) x y ≡ y
 when_not true b x y e = ap (λ c. cond c x y) e
 when_not false b x y e = refl
 
-when_ran : (a b : Bool) (x y z : Sums) → b ≡ true → x ≡ z → cond (a && b) z y ≡ cond a x y
-when_ran true true x y z e h = sym h
-when_ran true false x y z e h = cc
-when_ran false b x y z e h = refl
-
 -- an entry that didn't run changes nothing
 pub not_run : (start : ℕ) (state : Sums) (e : entry.Entry) → e.ran ≡ false → state_with start state (Entry e) ≡ state
 not_run start state e h = when_not (nat_eq e.start start) e.ran (step state e.request).1 state h

@@ -1,8 +1,5 @@
 -- What the tests of a judge say.
 use Rattle.std.proofs.Common.{◌≡◌, ◌∙◌, ℕ, ◌+◌, ◌<◌, ◌≤◌, nat_eq, nat_lt, Bool, true, false, IsTrue, ◌↔◌, if◌then◌else◌, List, length, map, Option, Some, None, inl, inr, refl, sym, ap, subst, arith}
-use Rattle.std.specs.Str.{bytes_eq}
-use Rattle.std.specs.Option.{is_none}
-use Rattle.std.proofs.lemmas.Slice.Eq.{bytes_eq-Decides}
 use Rattle.std.proofs.lemmas.Option.{slice_get_within}
 use Rattle.std.proofs.lemmas.Bool.{both_ways, cases_lt, eq-eqb, eqb-true, lt-ltb, ltb-true}
 use Rattle.trace_check.specs.declared.numbered.Numbered.{Numbered}
@@ -84,11 +81,6 @@ body_first facts trace place call f request at key =
       λ has. (call, is.1 ∙ ap (λ (b : List ℕ). fact.Body call b) (one_body facts trace place has.0 call is.0 request here has.1)),
     )
 
--- bytes that are compared
-pub same_bytes : (r : Bool) (a b own other : List ℕ) → r ≡ bytes_eq a b → a ≡ own → b ≡ other → IsTrue r ↔ (own ≡ other)
-same_bytes r a b own other e p q =
-    (λ is. sym p ∙ ((bytes_eq-Decides a b).0 (sym e ∙ is) ∙ q), λ same. e ∙ (bytes_eq-Decides a b).1 (p ∙ (same ∙ sym q)))
-
 -- ---- a call that is done
 
 pub done_at : (facts : List Fact) (place : ℕ) (call : Numbered) (told : Told) → At facts place (fact.State call told)
@@ -160,10 +152,6 @@ waits_first facts trace place call f at key =
     )
 
 -- ---- calls that have not run
-
-pub no_entries : (facts : List Fact) (call : Numbered) (row : Option Row) → AreEntries facts call row → IsTrue (is_none row) ↔ (HasEntry facts call → ⊥)
-no_entries facts call None entries = (λ e. entries, λ h. refl)
-no_entries facts call (Some row) entries = (λ e. cc, λ h. absurd (h (row.first, entries.first)))
 
 pub idle_at : (facts : List Fact) (place : ℕ) (call : Numbered) (told : Told) → At facts place (fact.State call told)
     → (HasNotRun told → HasEntry facts call → ⊥) ↔ IsIdle facts place
