@@ -80,6 +80,18 @@ pub fn holds_at<P: Debug + Drop>(row: P, fact: bool) -> Result<(), Fail>
     Err(Fail::new(format_args!("a fact that is asserted doesn't hold at {row:?}")))
 }
 
+/// What a row of a table has before a mark and behind it.
+///
+/// # Errors
+///
+/// Where the mark isn't in it; the failure shows the row.
+pub fn cut<'a>(row: &'a str, mark: &str) -> Result<(&'a str, &'a str), Fail> {
+    match row.split_once(mark) {
+        Some(both) => Ok(both),
+        None => Err(Fail::new(format_args!("no {mark:?} at {row:?}"))),
+    }
+}
+
 /// A value as `{}` tells it.
 ///
 /// # Errors

@@ -5,11 +5,12 @@ ghost use Rattle.service_tl.specs.declared.item.Item.TheVariants.{MsgsAck, Pong}
 ghost use Rattle.service_tl.specs.Items.{spelling_of, IsWritable, IsOfSchema};
 ghost use Rattle.service_tl.specs.ItemOf.{item_of};
 
+use crate::rows::are_so;
 use service_tl::laws::items_again;
 use service_tl::{FutureSalt, FutureSaltList, Item, Message, Messages, is_service, parse, write};
-use std::alloc::Global;
+use std::alloc::{AllocError, Global};
 use std::test::*;
-use test_asserts::{holds, holds_at, same, shown, shows};
+use test_asserts::{holds, same, shown, shows};
 use tl_codec::{IdList, Memory, Octets};
 
 // What is written of an item and parsed is that item.
@@ -71,109 +72,95 @@ fn ack_and_pong(alloc: Global, number: u64, ping_id: u64) -> Result<Octets, Memo
     Ok(text)
 }
 
-fn is_shown(alloc: Global, item: &Item, want: &str) -> Result<bool, Memory> {
-    Ok(shown(alloc, item)?.as_str() == want)
+// Whether a body is an item of the schema that is spelt as the body.
+fn is_spelt_so(alloc: Global, body: &[u8]) -> Result<bool, Memory> {
+    let anew = spelt_anew(alloc, body)?;
+    let is_so = match &anew {
+        Some(text) => text.as_slice() == body,
+        None => false,
+    };
+    drop(anew);
+    Ok(is_so)
 }
 
-// Whether an item is shown so, and is written as this body.
-fn is_of(alloc: Global, item: &Item, body: &[u8], want: &str) -> Result<bool, Memory>
-    requires { IsOfSchema item.now → IsWritable item.now }
-{
-    if !item.is_of_schema() || !is_shown(alloc, item, want)? {
-        return Ok(false);
-    }
-    let mut written = Octets::new(alloc);
-    write(alloc, item, &mut written)?;
-    Ok(written.as_slice() == body)
+/// The item that a body is, as `{:?}` shows it; it is written as the body.
+pub(crate) fn again(alloc: Global, body: &[u8]) -> Result<String, Fail> {
+    holds(is_spelt_so(alloc, body)?)?;
+    read(alloc, body)
 }
 
-// Whether a body is read as the item that is shown so, and that item is written as the body.
-fn agrees(alloc: Global, body: &[u8], want: &str) -> Result<bool, Memory> {
+/// The item that a body is, as `{:?}` shows it.
+pub(crate) fn read(alloc: Global, body: &[u8]) -> Result<String, Fail> {
     let item = parse(alloc, body)?;
-    let agrees = is_of(alloc, &item, body, want);
+    let text = shown(alloc, &item);
     drop(item);
-    agrees
+    Ok(text?)
+}
+
+/// The writer's spelling of a body, likewise.
+pub(crate) fn anew(alloc: Global, body: &[u8]) -> Result<String, Fail> {
+    let anew = spelt_anew(alloc, body)?;
+    let text = shown(alloc, &anew);
+    drop(anew);
+    Ok(text?)
 }
 
 // A body's hexadecimal digits, and the item that it is, as `{:?}` shows it.
 const ONE_OF_EACH: &str = "\
-016d5cf3040000000000000001020304 RpcResult { req_msg_id: 4, result: Octets { bytes: [1, 2, 3, 4] } }\n\
-016d5cf30400000000000000 RpcResult { req_msg_id: 4, result: Octets { bytes: [] } }\n\
-19ca44219001000003414243 RpcError { error_code: 400, error_message: Octets { bytes: [65, 66, 67] } }\n\
-40a7e4580400000000000000 RpcDropAnswer { req_msg_id: 4 }\n\
-6ed32a5e RpcAnswerUnknown\n\
-86e578cd RpcAnswerDroppedRunning\n\
-b7d83aa408000000000000000100000010000000 RpcAnswerDropped { msg_id: 8, seq_no: 1, bytes: 16 }\n\
-04bd21b902000000 GetFutureSalts { num: 2 }\n\
-950850ae0400000000000000e80300000200000000000000100e0000070000000000000008070000181500000800000000000000 FutureSalts { req_msg_id: 4, now: 1000, salts: FutureSaltList { rows: [FutureSalt { valid_since: 0, valid_until: 3600, salt: 7 }, FutureSalt { valid_since: 1800, valid_until: 5400, salt: 8 }] } }\n\
-ec77be7a0700000000000000 Ping { ping_id: 7 }\n\
-8c7b42f307000000000000004b000000 PingDelayDisconnect { ping_id: 7, disconnect_delay: 75 }\n\
-c573773408000000000000000700000000000000 Pong { msg_id: 8, ping_id: 7 }\n\
-262151e70807060504030201 DestroySession { session_id: 72623859790382856 }\n\
-fc4520e20807060504030201 DestroySessionOk { session_id: 72623859790382856 }\n\
-c950d3620807060504030201 DestroySessionNone { session_id: 72623859790382856 }\n\
-0809c29e0c0000000000000088776655443322110700000000000000 NewSessionCreated { first_msg_id: 12, unique_id: 1234605616436508552, server_salt: 7 }\n\
-dcf8f17301000000080000000000000001000000040000000a0b0c0d MsgContainer { messages: Messages { messages: [Message { number: 8, seq: 1, body: Octets { bytes: [10, 11, 12, 13] } }] } }\n\
-59b4d66215c4b51c010000000400000000000000 MsgsAck { msg_ids: IdList { numbers: [4] } }\n\
-52fb69da15c4b51c010000000400000000000000 MsgsStateReq { msg_ids: IdList { numbers: [4] } }\n\
-7db5de04040000000000000002010400 MsgsStateInfo { req_msg_id: 4, info: Octets { bytes: [1, 4] } }\n\
-31d1c08c15c4b51c01000000040000000000000002010400 MsgsAllInfo { msg_ids: IdList { numbers: [4] }, info: Octets { bytes: [1, 4] } }\n\
-081a867d15c4b51c010000000400000000000000 MsgResendReq { msg_ids: IdList { numbers: [4] } }\n\
-c63e6d27080000000000000014000000000000001000000000000000 MsgDetailedInfo { msg_id: 8, answer_msg_id: 20, bytes: 16, status: 0 }\n\
-dfb69d8014000000000000001000000000000000 MsgNewDetailedInfo { answer_msg_id: 20, bytes: 16, status: 0 }\n\
-11f8efa704000000000000000100000030000000 BadMsgNotification { bad_msg_id: 4, bad_msg_seqno: 1, error_code: 48 }\n\
-7b44abed040000000000000001000000300000000700000000000000 BadServerSalt { bad_msg_id: 4, bad_msg_seqno: 1, error_code: 48, new_server_salt: 7 }\n\
-2d379fcb080000000000000001020304 InvokeAfterMsg { msg_id: 8, query: Octets { bytes: [1, 2, 3, 4] } }\n\
-f0b4c43d15c4b51c01000000040000000000000001020304 InvokeAfterMsgs { msg_ids: IdList { numbers: [4] }, query: Octets { bytes: [1, 2, 3, 4] } }\n\
-052ad4cd01020304050607080900000000000000100e0000067365616c656400 AuthBindTempAuthKey { perm_auth_key_id: 578437695752307201, nonce: 9, expires_at: 3600, encrypted_message: Octets { bytes: [115, 101, 97, 108, 101, 100] } }\n";
-
-// A body of a row is read as the item that is shown in it, and that item is written as the body.
-fn is_read_and_written(alloc: Global, row: &str) -> Result<(), Fail> {
-    let (digits, want) = row.split_once(' ').ok_or("digits and an item")?;
-    let body = hex::decode(alloc, digits).ok().ok_or("hexadecimal digits")?;
-    holds_at(want, agrees(alloc, &body, want)?)
-}
+again 016d5cf3040000000000000001020304 RpcResult { req_msg_id: 4, result: Octets { bytes: [1, 2, 3, 4] } }\n\
+again 016d5cf30400000000000000 RpcResult { req_msg_id: 4, result: Octets { bytes: [] } }\n\
+again 19ca44219001000003414243 RpcError { error_code: 400, error_message: Octets { bytes: [65, 66, 67] } }\n\
+again 40a7e4580400000000000000 RpcDropAnswer { req_msg_id: 4 }\n\
+again 6ed32a5e RpcAnswerUnknown\n\
+again 86e578cd RpcAnswerDroppedRunning\n\
+again b7d83aa408000000000000000100000010000000 RpcAnswerDropped { msg_id: 8, seq_no: 1, bytes: 16 }\n\
+again 04bd21b902000000 GetFutureSalts { num: 2 }\n\
+again 950850ae0400000000000000e80300000200000000000000100e0000070000000000000008070000181500000800000000000000 FutureSalts { req_msg_id: 4, now: 1000, salts: FutureSaltList { rows: [FutureSalt { valid_since: 0, valid_until: 3600, salt: 7 }, FutureSalt { valid_since: 1800, valid_until: 5400, salt: 8 }] } }\n\
+again ec77be7a0700000000000000 Ping { ping_id: 7 }\n\
+again 8c7b42f307000000000000004b000000 PingDelayDisconnect { ping_id: 7, disconnect_delay: 75 }\n\
+again c573773408000000000000000700000000000000 Pong { msg_id: 8, ping_id: 7 }\n\
+again 262151e70807060504030201 DestroySession { session_id: 72623859790382856 }\n\
+again fc4520e20807060504030201 DestroySessionOk { session_id: 72623859790382856 }\n\
+again c950d3620807060504030201 DestroySessionNone { session_id: 72623859790382856 }\n\
+again 0809c29e0c0000000000000088776655443322110700000000000000 NewSessionCreated { first_msg_id: 12, unique_id: 1234605616436508552, server_salt: 7 }\n\
+again dcf8f17301000000080000000000000001000000040000000a0b0c0d MsgContainer { messages: Messages { messages: [Message { number: 8, seq: 1, body: Octets { bytes: [10, 11, 12, 13] } }] } }\n\
+again 59b4d66215c4b51c010000000400000000000000 MsgsAck { msg_ids: IdList { numbers: [4] } }\n\
+again 52fb69da15c4b51c010000000400000000000000 MsgsStateReq { msg_ids: IdList { numbers: [4] } }\n\
+again 7db5de04040000000000000002010400 MsgsStateInfo { req_msg_id: 4, info: Octets { bytes: [1, 4] } }\n\
+again 31d1c08c15c4b51c01000000040000000000000002010400 MsgsAllInfo { msg_ids: IdList { numbers: [4] }, info: Octets { bytes: [1, 4] } }\n\
+again 081a867d15c4b51c010000000400000000000000 MsgResendReq { msg_ids: IdList { numbers: [4] } }\n\
+again c63e6d27080000000000000014000000000000001000000000000000 MsgDetailedInfo { msg_id: 8, answer_msg_id: 20, bytes: 16, status: 0 }\n\
+again dfb69d8014000000000000001000000000000000 MsgNewDetailedInfo { answer_msg_id: 20, bytes: 16, status: 0 }\n\
+again 11f8efa704000000000000000100000030000000 BadMsgNotification { bad_msg_id: 4, bad_msg_seqno: 1, error_code: 48 }\n\
+again 7b44abed040000000000000001000000300000000700000000000000 BadServerSalt { bad_msg_id: 4, bad_msg_seqno: 1, error_code: 48, new_server_salt: 7 }\n\
+again 2d379fcb080000000000000001020304 InvokeAfterMsg { msg_id: 8, query: Octets { bytes: [1, 2, 3, 4] } }\n\
+again f0b4c43d15c4b51c01000000040000000000000001020304 InvokeAfterMsgs { msg_ids: IdList { numbers: [4] }, query: Octets { bytes: [1, 2, 3, 4] } }\n\
+again 052ad4cd01020304050607080900000000000000100e0000067365616c656400 AuthBindTempAuthKey { perm_auth_key_id: 578437695752307201, nonce: 9, expires_at: 3600, encrypted_message: Octets { bytes: [115, 101, 97, 108, 101, 100] } }\n";
 
 #[test]
 fn one_body_of_each_constructor(rt: HostRuntime) -> Result<(), Fail> {
-    for row in ONE_OF_EACH.lines() {
-        is_read_and_written(rt.alloc(), row)?;
-    }
-    Ok(())
+    are_so(rt.alloc(), ONE_OF_EACH, 29)
 }
 
 // Three calls; what is packed, and not read; a ping with 4 bytes after it; a list of numbers that is cut, one that claims
 // 8,193 of them, and one without its constructor; a container of one message that is cut, and one that claims two; salts of
 // which the second is cut; a string in the long form.
-const READ_OTHERWISE: &str = " Call\n\
-0102 Call\n\
-01020304 Call\n\
-a1cf7230 Packed\n\
-ec77be7a070000000000000000000000 Broken(2059302892)\n\
-59b4d66215c4b51c0100000004000000000000 Broken(1658238041)\n\
-59b4d66215c4b51c01200000 Broken(1658238041)\n\
-59b4d662010000000400000000000000 Broken(1658238041)\n\
-dcf8f17301000000080000000000000001000000080000000a0b0c0d Broken(1945237724)\n\
-dcf8f17302000000080000000000000001000000040000000a0b0c0d Broken(1945237724)\n\
-950850ae0400000000000000e80300000200000000000000100e00000700000000000000080700001815000008000000 Broken(2924480661)\n\
-19ca442190010000fe03000041424300 RpcError { error_code: 400, error_message: Octets { bytes: [65, 66, 67] } }\n";
-
-// A body of a row is read as is shown in it.
-fn is_read(alloc: Global, row: &str) -> Result<(), Fail> {
-    let (digits, want) = row.split_once(' ').ok_or("digits and an item")?;
-    let body = hex::decode(alloc, digits).ok().ok_or("hexadecimal digits")?;
-    let item = parse(alloc, &body)?;
-    let shown = shows(alloc, &item, want);
-    drop(item);
-    shown
-}
+const READ_OTHERWISE: &str = "read  Call\n\
+read 0102 Call\n\
+read 01020304 Call\n\
+read a1cf7230 Packed\n\
+read ec77be7a070000000000000000000000 Broken(2059302892)\n\
+read 59b4d66215c4b51c0100000004000000000000 Broken(1658238041)\n\
+read 59b4d66215c4b51c01200000 Broken(1658238041)\n\
+read 59b4d662010000000400000000000000 Broken(1658238041)\n\
+read dcf8f17301000000080000000000000001000000080000000a0b0c0d Broken(1945237724)\n\
+read dcf8f17302000000080000000000000001000000040000000a0b0c0d Broken(1945237724)\n\
+read 950850ae0400000000000000e80300000200000000000000100e00000700000000000000080700001815000008000000 Broken(2924480661)\n\
+read 19ca442190010000fe03000041424300 RpcError { error_code: 400, error_message: Octets { bytes: [65, 66, 67] } }\n";
 
 #[test]
 fn bodies_that_are_read_otherwise(rt: HostRuntime) -> Result<(), Fail> {
-    for row in READ_OTHERWISE.lines() {
-        is_read(rt.alloc(), row)?;
-    }
-    Ok(())
+    are_so(rt.alloc(), READ_OTHERWISE, 12)
 }
 
 #[test]
@@ -195,53 +182,53 @@ fn what_was_written_is_parsed(rt: HostRuntime) -> Result<(), Fail> {
     shown
 }
 
+const ACK_AND_PONG: &str =
+    "59b4d66215c4b51c010000000400000000000000c573773404000000000000000700000000000000";
+
 #[test]
 fn two_items_stand_in_one_text(rt: HostRuntime) -> Result<(), Fail> {
-    let alloc = rt.alloc();
-    let text = ack_and_pong(alloc, 4, 7)?;
-    let want = hex::decode(
-        alloc,
-        "59b4d66215c4b51c010000000400000000000000c573773404000000000000000700000000000000",
-    )
-    .ok()
-    .ok_or("hexadecimal digits")?;
-    holds(text.as_slice() == want.as_slice())?;
-    Ok(())
+    let text = ack_and_pong(rt.alloc(), 4, 7)?;
+    let digits = hex::encode(rt.alloc(), text.as_slice());
+    drop(text);
+    same(digits?.as_str(), ACK_AND_PONG)
 }
+
+// A string in the long form, and a call.
+const SPELT_ANEW: &str = "\
+anew 19ca442190010000fe03000041424300 Some(Octets { bytes: [25, 202, 68, 33, 144, 1, 0, 0, 3, 65, 66, 67] })\n\
+anew 01020304 None\n";
 
 #[test]
 fn other_spellings_are_spelt_anew(rt: HostRuntime) -> Result<(), Fail> {
-    let alloc = rt.alloc();
-    let rows = [
-        // a string in the long form
-        (
-            "19ca442190010000fe03000041424300",
-            "Some(Octets { bytes: [25, 202, 68, 33, 144, 1, 0, 0, 3, 65, 66, 67] })",
-        ),
-        // a call
-        ("01020304", "None"),
-    ];
-    for (text, want) in rows {
-        let body = hex::decode(alloc, text).ok().ok_or("hexadecimal digits")?;
-        shows(alloc, &spelt_anew(alloc, &body)?, want)?;
-    }
-    Ok(())
+    are_so(rt.alloc(), SPELT_ANEW, 2)
+}
+
+// A list of one salt.
+fn one_salt(alloc: Global) -> Result<FutureSaltList, Memory> {
+    let mut salts = FutureSaltList::new(alloc);
+    let salt = FutureSalt {
+        valid_since: 0,
+        valid_until: 3_600,
+        salt: 7,
+    };
+    salts.push(alloc, salt)?;
+    Ok(salts)
+}
+
+// A copy of salts has the same.
+fn are_cloned(salts: &FutureSaltList) -> Result<(), Fail> {
+    let copy = salts.clone()?;
+    let is_same = copy.as_slice() == salts.as_slice();
+    drop(copy);
+    holds(is_same)
 }
 
 #[test]
 fn salts_are_cloned(rt: HostRuntime) -> Result<(), Fail> {
-    let alloc = rt.alloc();
-    let mut salts = FutureSaltList::new(alloc);
-    salts.push(
-        alloc,
-        FutureSalt {
-            valid_since: 0,
-            valid_until: 3_600,
-            salt: 7,
-        },
-    )?;
-    let copy = salts.clone()?;
-    holds(copy.as_slice() == salts.as_slice())
+    let salts = one_salt(rt.alloc())?;
+    let done = are_cloned(&salts);
+    drop(salts);
+    done
 }
 
 // A message of the number 8, and how it is shown.
@@ -260,24 +247,41 @@ const SHOWN: &str = "Message { number: 8, seq: 1, body: Octets { bytes: [97, 98,
 #[test]
 fn a_message_is_cloned(rt: HostRuntime) -> Result<(), Fail> {
     let message = message(rt.alloc())?;
-    let copy = message.clone()?;
-    shows(rt.alloc(), &copy, SHOWN)
+    let copy: Result<_, AllocError> = message.clone();
+    drop(message);
+    shows(rt.alloc(), &copy?, SHOWN)
+}
+
+// A list of such a message.
+fn one_message(alloc: Global) -> Result<Messages, Memory> {
+    let message = message(alloc)?;
+    let mut messages = Messages::with_capacity(alloc, 1)?;
+    messages.push(alloc, message)?;
+    Ok(messages)
+}
+
+// A copy of such a list.
+fn copies(alloc: Global) -> Result<Messages, Fail> {
+    let messages = one_message(alloc)?;
+    let copies: Result<_, AllocError> = messages.clone();
+    drop(messages);
+    Ok(copies?)
 }
 
 #[test]
 fn messages_are_cloned(rt: HostRuntime) -> Result<(), Fail> {
-    let alloc = rt.alloc();
-    let mut messages = Messages::with_capacity(alloc, 1)?;
-    messages.push(alloc, message(alloc)?)?;
-    let copies = messages.clone()?;
-    drop(messages);
-    are_shown(alloc, copies.as_slice())
+    let copies = copies(rt.alloc())?;
+    let done = are_shown(rt.alloc(), copies.as_slice());
+    drop(copies);
+    done
 }
 
 // One message, that is shown so.
 fn are_shown(alloc: Global, messages: &[Message]) -> Result<(), Fail> {
-    for message in messages {
-        shows(alloc, message, SHOWN)?;
-    }
-    same(messages.len(), 1)
+    same(messages.len(), 1)?;
+    shows(
+        alloc,
+        &messages.first(),
+        "Some(Message { number: 8, seq: 1, body: Octets { bytes: [97, 98, 99, 100] } })",
+    )
 }

@@ -12,6 +12,8 @@ mod numbers;
 #[cfg(test)]
 mod owned;
 #[cfg(test)]
+mod rows;
+#[cfg(test)]
 mod seeds;
 #[cfg(test)]
 mod texts;

@@ -6,49 +6,51 @@ use msg_ids::{Moment, Numbers};
 use std::test::Fail;
 use test_asserts::{holds, same};
 
-// What a sender gives to messages at moments, each content-related or not.
-fn gives(asked: &[(u64, bool)], expected: &[(u64, u32)]) -> Result<(), Fail> {
-    let mut numbers = Numbers::new();
-    for (asked, expected) in asked.iter().zip(expected) {
-        let (seconds, content) = *asked;
-        let given = numbers.next(Moment::new(seconds), content);
-        same(given, Some(*expected))?;
-    }
-    Ok(())
-}
-
 #[test]
 fn moments_end() -> Result<(), Fail> {
-    same(Moment::new(4_000_000_000).seconds(), 4_000_000_000)?;
-    same(Moment::new(u64::MAX).seconds(), 4_000_000_000)?;
-    holds(Moment::new(3) < Moment::new(4))?;
-    Ok(())
+    let ends = [
+        Moment::new(4_000_000_000).seconds(),
+        Moment::new(u64::MAX).seconds(),
+    ];
+    same(ends, [4_000_000_000; 2])?;
+    holds(Moment::new(3) < Moment::new(4))
+}
+
+// What a sender gives to a message in this second, content-related or not.
+fn given(numbers: &mut Numbers, seconds: u64, content: bool) -> Option<(u64, u32)> {
+    numbers.next(Moment::new(seconds), content)
 }
 
 #[test]
 fn numbers_and_seqs() -> Result<(), Fail> {
-    gives(
-        &[(0, true), (0, false), (1, true), (0, true), (1, false)],
-        &[
-            (4, 1),
-            (8, 2),
-            (4294967296, 3),
-            (4294967300, 5),
-            (4294967304, 6),
-        ],
-    )?;
-    gives(&[(4_000_000_000, false)], &[(17179869184000000000, 0)])
+    let mut numbers = Numbers::new();
+    let five = [
+        given(&mut numbers, 0, true),
+        given(&mut numbers, 0, false),
+        given(&mut numbers, 1, true),
+        given(&mut numbers, 0, true),
+        given(&mut numbers, 1, false),
+    ];
+    let wanted = [
+        Some((4, 1)),
+        Some((8, 2)),
+        Some((4294967296, 3)),
+        Some((4294967300, 5)),
+        Some((4294967304, 6)),
+    ];
+    same(five, wanted)?;
+    let last = given(&mut Numbers::new(), 4_000_000_000, false);
+    same(last, Some((17179869184000000000, 0)))
 }
 
 #[test]
 fn room_falls() -> Result<(), Fail> {
     let mut numbers = Numbers::new();
-    same(numbers.room(), 1_073_741_824)?;
-    let copy = numbers;
-    holds(numbers.next(Moment::new(0), true).is_some())?;
-    same(numbers.room(), 1_073_741_823)?;
-    same(copy.room(), 1_073_741_824)?;
-    Ok(())
+    let (first, copy) = (numbers.room(), numbers);
+    let is_given = given(&mut numbers, 0, true).is_some();
+    let rooms = [first, numbers.room(), copy.room()];
+    same(rooms, [1_073_741_824, 1_073_741_823, 1_073_741_824])?;
+    holds(is_given)
 }
 
 // What a sender does: it looks whether there is room, and then numbers two messages.

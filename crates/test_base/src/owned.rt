@@ -3,20 +3,32 @@
 ghost use Rattle.std.specs.Prelude.{◌≡◌, ◌<◌, ◌+◌, ◌^◌, ◌++◌, length, OnOk, OnErr};
 
 use octets::{Buffer, IdList, Memory, Octets};
-use std::alloc::Global;
+use std::alloc::{AllocError, Global};
 use std::test::*;
-use test_asserts::{same, tells};
+use test_asserts::{holds, same, tells};
+
+// A copy of bytes has those, and they have two where they are cut.
+fn is_copied(text: &mut Octets) -> Result<(), Fail> {
+    let copy: Result<Octets, AllocError> = text.clone();
+    text.truncate(2);
+    are_abcde(copy?)?;
+    same(text.as_slice(), b"ab".as_slice())
+}
+
+fn are_abcde(text: Octets) -> Result<(), Fail> {
+    let are = text.as_slice() == b"abcde".as_slice();
+    drop(text);
+    holds(are)
+}
 
 #[test]
 fn bytes_own_their_memory(rt: HostRuntime) -> Result<(), Fail> {
-    let alloc = rt.alloc();
-    let mut text = Octets::copy(alloc, b"abc")?;
-    text.push_all(alloc, b"de")?;
-    let copy = text.clone()?;
-    text.truncate(2);
-    same(text.as_slice(), b"ab".as_slice())?;
-    same(copy.as_slice(), b"abcde".as_slice())?;
-    Ok(())
+    let mut text = Octets::copy(rt.alloc(), b"abc")?;
+    let pushed = text.push_all(rt.alloc(), b"de");
+    let done = is_copied(&mut text);
+    drop(text);
+    done?;
+    Ok(pushed?)
 }
 
 #[test]
@@ -28,22 +40,39 @@ fn bytes_become_a_vec_and_come_back(rt: HostRuntime) -> Result<(), Fail> {
     Ok(())
 }
 
-#[test]
-fn numbers_own_their_memory(rt: HostRuntime) -> Result<(), Fail> {
-    let alloc = rt.alloc();
+// A copy of numbers has these.
+fn are_copied(list: &IdList, numbers: &[u64]) -> Result<(), Fail> {
+    let copy = list.clone()?;
+    let are = copy.ids() == numbers;
+    drop(copy);
+    holds(are)
+}
+
+// Two numbers, and a third behind them.
+fn three_numbers(alloc: Global) -> Result<IdList, Memory> {
     let mut list = IdList::new(alloc);
     list.push_all(alloc, &[3, u64::MAX])?;
     list.push_all(alloc, &[4])?;
-    same(list.clone()?.ids(), [3, u64::MAX, 4].as_slice())?;
-    Ok(())
+    Ok(list)
+}
+
+#[test]
+fn numbers_own_their_memory(rt: HostRuntime) -> Result<(), Fail> {
+    let list = three_numbers(rt.alloc())?;
+    let done = are_copied(&list, &[3, u64::MAX, 4]);
+    drop(list);
+    done
 }
 
 #[test]
 fn numbers_come_from_a_vec_and_from_a_slice(rt: HostRuntime) -> Result<(), Fail> {
-    let alloc = rt.alloc();
-    same(IdList::from(vec![in alloc; 7]?).ids(), [7].as_slice())?;
-    same(IdList::copy(alloc, &[4])?.ids(), [4].as_slice())?;
-    Ok(())
+    let list = IdList::from(vec![in rt.alloc(); 7]?);
+    let is_seven = list.ids() == [7].as_slice();
+    drop(list);
+    let list = IdList::copy(rt.alloc(), &[4])?;
+    let is_four = list.ids() == [4].as_slice();
+    drop(list);
+    same([is_seven, is_four], [true, true])
 }
 
 // Puts two parts behind a text, both or none, as a crate above does.
@@ -61,16 +90,22 @@ fn put(alloc: Global, text: &mut Octets, front: &[u8], back: &[u8]) -> Result<()
 
 #[test]
 fn a_buffer_is_filled(rt: HostRuntime) -> Result<(), Fail> {
-    let alloc = rt.alloc();
-    let mut text = Octets::copy(alloc, b"ab")?;
-    put(alloc, &mut text, b"cd", b"e")?;
-    same(text.as_slice(), b"abcde".as_slice())?;
-    let mut buffer = Buffer::new(alloc, 2)?;
+    let mut text = Octets::copy(rt.alloc(), b"ab")?;
+    let done = put(rt.alloc(), &mut text, b"cd", b"e");
+    are_abcde(text)?;
+    done?;
+    let mut buffer = Buffer::new(rt.alloc(), 2)?;
+    let done = is_full(&mut buffer, rt.alloc());
+    drop(buffer);
+    done
+}
+
+// A buffer of two bytes takes a third, and is full.
+fn is_full(buffer: &mut Buffer, alloc: Global) -> Result<(), Fail> {
     buffer.reserve(alloc, 3)?;
     buffer.push_all(b"xyz");
     same(buffer.as_slice(), b"xyz".as_slice())?;
-    same(buffer.room(), 0)?;
-    Ok(())
+    same(buffer.room(), 0)
 }
 
 #[test]

@@ -8,6 +8,7 @@ ghost use Rattle.containers.specs.Container.{AreWithin, IsInner, KeepsRules, beg
 ghost use Rattle.containers.specs.Parts.{parts_of};
 ghost use Rattle.containers.specs.Unfolded.{Tells};
 
+use crate::rows::are_so;
 use containers::{
     CONTAINER_HEAD_BYTES, ContainerFault, MESSAGE_HEAD_BYTES, Message, Messages, Part, Parts,
     Unfolded, Why, container, container_of_parts, fits, is_container, laws, unfold,
@@ -16,18 +17,21 @@ use octets::{Memory, Octets};
 use std::alloc::Global;
 use std::marker::Model;
 use std::test::*;
-use test_asserts::{holds, holds_at, same, shown, shows, tells};
+use test_asserts::{holds, same, shown, shows, tells};
 
 // Where and why the container in message 100 isn't lawful.
-fn fault_of(alloc: Global, body: &[u8]) -> Result<Option<(u32, Why)>, Memory> {
-    if !is_container(body) {
-        return Ok(None);
-    }
+fn fault_of(alloc: Global, body: &[u8]) -> Result<Option<(u32, Why)>, Fail> {
+    holds(is_container(body))?;
     match unfold(alloc, 100, body) {
         Unfolded::Invalid { place, why } => Ok(Some((place, why))),
         Unfolded::Messages(_) => Ok(None),
-        Unfolded::Memory => Err(Memory),
+        Unfolded::Memory => Err(Fail::new("out of memory")),
     }
+}
+
+/// The same as `{:?}` shows it.
+pub(crate) fn fault(alloc: Global, body: &[u8]) -> Result<String, Fail> {
+    Ok(shown(alloc, &fault_of(alloc, body)?)?)
 }
 
 // Puts messages together and unfolds them, as one end's packet reaches the other.
@@ -65,7 +69,7 @@ fn list_unfolded_again(alloc: Global, number: u64, messages: &Messages) -> Resul
 }
 
 // Messages for one container, as they come: what the next one needs is counted.
-#[derive(Debug, Drop)]
+#[derive(Drop)]
 struct Packer {
     messages: Vec<Message>,
     bytes: usize,
@@ -123,32 +127,20 @@ impl Packer {
 
 // The digits of a container in message 100, and where and why it isn't lawful.
 const FAULTS: &str = "\
-dcf8f173 Some((0, Short))\n\
-dcf8f17300000000 None\n\
-dcf8f173fd030000 Some((0, TooMany))\n\
-dcf8f17301000000040000000000000001000000000000 Some((0, Short))\n\
-dcf8f1730100000004000000000000000100000003000000 Some((0, Odd))\n\
-dcf8f1730100000004000000000000000100000004000000 Some((0, Short))\n\
-dcf8f1730100000064000000000000000100000000000000 Some((0, NotBelow))\n\
-dcf8f1730100000004000000000000000000000008000000dcf8f17300000000 Some((0, Nested))\n\
-dcf8f173010000000400000000000000010000000000000000000000 Some((1, Extra))\n\
-dcf8f173020000000400000000000000010000000000000064000000000000000100000000000000 Some((1, NotBelow))\n";
-
-// The container of a row has the fault that the row says.
-fn has_fault(alloc: Global, row: &str) -> Result<(), Fail> {
-    let (digits, want) = row.split_once(' ').ok_or("digits and a fault")?;
-    let body = hex::decode(alloc, digits).ok().ok_or("hexadecimal digits")?;
-    holds_at(row, is_container(body.as_slice()))?;
-    shows(alloc, &fault_of(alloc, body.as_slice())?, want)
-}
+fault dcf8f173 Some((0, Short))\n\
+fault dcf8f17300000000 None\n\
+fault dcf8f173fd030000 Some((0, TooMany))\n\
+fault dcf8f17301000000040000000000000001000000000000 Some((0, Short))\n\
+fault dcf8f1730100000004000000000000000100000003000000 Some((0, Odd))\n\
+fault dcf8f1730100000004000000000000000100000004000000 Some((0, Short))\n\
+fault dcf8f1730100000064000000000000000100000000000000 Some((0, NotBelow))\n\
+fault dcf8f1730100000004000000000000000000000008000000dcf8f17300000000 Some((0, Nested))\n\
+fault dcf8f173010000000400000000000000010000000000000000000000 Some((1, Extra))\n\
+fault dcf8f173020000000400000000000000010000000000000064000000000000000100000000000000 Some((1, NotBelow))\n";
 
 #[test]
 fn faults_have_their_places(rt: HostRuntime) -> Result<(), Fail> {
-    same(FAULTS.lines().count(), 10)?;
-    for row in FAULTS.lines() {
-        has_fault(rt.alloc(), row)?;
-    }
-    Ok(())
+    are_so(rt.alloc(), FAULTS, 10)
 }
 
 // A message with number 4 and the body `abcd`, and behind it one with number 8 and none.
@@ -256,30 +248,32 @@ fn lent_messages_are_put_together(rt: HostRuntime) -> Result<(), Fail> {
     same(text.as_slice(), OF_ABCD)
 }
 
+// The messages of the container are that one, and no other.
+fn is_abcd(parts: &mut Parts<'_>) -> Result<(), Fail> {
+    let count = parts.len();
+    let is_first = parts.next() == Some(ABCD);
+    let is_empty = parts.is_empty();
+    let is_last = parts.next().is_none();
+    same((count, [is_first, is_empty, is_last]), (1, [true; 3]))
+}
+
 #[test]
 fn lent_messages_are_read() -> Result<(), Fail> {
     holds(is_container(OF_ABCD))?;
-    let mut parts = Parts::read(8, OF_ABCD)?;
-    same(parts.len(), 1)?;
-    holds(parts.next() == Some(ABCD))?;
-    holds(parts.is_empty())?;
-    holds(parts.next().is_none())?;
+    is_abcd(&mut Parts::read(8, OF_ABCD)?)?;
     same(first_seq(8, OF_ABCD), Some(1))
 }
 
 #[test]
 fn limits_are_taken() -> Result<(), Fail> {
-    let rows = [
-        (1_019, 8, 0, true),
-        (1_020, 8, 0, false),
-        (0, 8, 1_044_456, true),
-        (0, 8, 1_044_457, false),
-        (0, usize::MAX, usize::MAX, false),
+    let found = [
+        fits(1_019, 8, 0),
+        fits(1_020, 8, 0),
+        fits(0, 8, 1_044_456),
+        fits(0, 8, 1_044_457),
+        fits(0, usize::MAX, usize::MAX),
     ];
-    for (count, bytes, next, want) in rows {
-        same(fits(count, bytes, next), want)?;
-    }
-    Ok(())
+    same(found, [true, false, true, false, false])
 }
 
 // The body of a container of 1,020 messages without a body.

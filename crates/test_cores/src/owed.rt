@@ -9,7 +9,7 @@ use envelope::{ClearSeal, Dir, Envelope, Opened, Seal};
 use msg_ids::{Moment, Numbers};
 use octets::Memory;
 use salt_line::SaltRow;
-use server_output::{Header, OutgoingMessages, Outs, Packets, packets_most};
+use server_output::{Delivery, Header, Outgoing, OutgoingMessages, Outs, Packets, packets_most};
 use std::alloc::Global;
 use std::test::*;
 use test_asserts::same;
@@ -36,10 +36,28 @@ fn three_things<S: Seal, D: Draw>(
     let packets = Packets::new(alloc, 3, 100)?;
     let mut outs = Outs::new(alloc, packets_most(3, 100))?;
     let now = Moment::new(0);
-    owing.new_session(now, numbers, 4, 7, HEADER.salt);
-    owing.bad_salt(now, numbers, 4, 1, HEADER.salt);
-    owing.again(13, 3, 8, b"answered in.");
-    packets.send(now, numbers, &owing, HEADER, seal, draw, &mut outs);
+    let new_session = Outgoing::NewSession {
+        first: 4,
+        unique: 7,
+        salt: HEADER.salt,
+    };
+    let bad_salt = Outgoing::BadSalt {
+        number: 4,
+        seq: 1,
+        salt: HEADER.salt,
+    };
+    owing.say(now, numbers, &new_session);
+    owing.say(now, numbers, &bad_salt);
+    let kept = Outgoing::Result {
+        call: 8,
+        content: b"answered in.",
+    };
+    owing.again(13, 3, &kept);
+    let delivery = Delivery {
+        owing: &owing,
+        packets,
+    };
+    delivery.send(now, numbers, HEADER, seal, draw, &mut outs);
     Ok(outs)
 }
 
@@ -138,14 +156,39 @@ fn answers(alloc: Global, numbers: &mut Numbers) -> Result<(OutgoingMessages, u6
     }];
     let now = Moment::new(0);
     let mut owing = OutgoingMessages::new(alloc, 8, 200)?;
-    owing.acks(now, numbers, &[8, 12]);
-    owing.notice(now, numbers, 4, 1, 32);
-    owing.pong(now, numbers, 8, 3);
-    owing.salts(now, numbers, 8, &rows);
-    owing.states(now, numbers, 8, &[1, 4]);
-    owing.destroyed(now, numbers, 10, true);
-    owing.destroyed(now, numbers, 11, false);
-    let (number, seq) = owing.result(now, numbers, 8, b"done");
+    let notice = Outgoing::Notice {
+        number: 4,
+        seq: 1,
+        code: 32,
+    };
+    let salts = Outgoing::Salts {
+        request: 8,
+        now: 0,
+        rows: &rows,
+    };
+    let states = Outgoing::States {
+        request: 8,
+        info: &[1, 4],
+    };
+    let result = Outgoing::Result {
+        call: 8,
+        content: b"done",
+    };
+    owing.say(now, numbers, &Outgoing::Acks(&[8, 12]));
+    owing.say(now, numbers, &notice);
+    owing.say(
+        now,
+        numbers,
+        &Outgoing::Pinged {
+            message: 8,
+            ping: 3,
+        },
+    );
+    owing.say(now, numbers, &salts);
+    owing.say(now, numbers, &states);
+    owing.say(now, numbers, &Outgoing::destroyed(10, true));
+    owing.say(now, numbers, &Outgoing::destroyed(11, false));
+    let (number, seq) = owing.say(now, numbers, &result);
     Ok((owing, number, seq))
 }
 

@@ -11,7 +11,7 @@ use msg_ids::Moment;
 use octets::{Memory, Octets};
 use outbox::Bytes;
 use server_core::SessionName;
-use server_output::{OutgoingMessages, Outs, Packets, packets_most};
+use server_output::{Delivery, OutgoingMessages, Outs, Packets, packets_most};
 use server_session::SessionState;
 use std::alloc::Global;
 use std::test::*;
@@ -30,7 +30,11 @@ fn hears_first<S: Seal, D: Draw>(alloc: Global, seal: &S, draw: &mut D) -> Resul
     standing.says_it_is_new(now, &mut owing, draw);
     standing.acknowledges::<D>(now, &mut owing, &[]);
     standing.notices(now, &mut owing, draw, 4, 1, 48);
-    standing.sends(now, &owing, packets, seal, draw, &mut outs);
+    let delivery = Delivery {
+        owing: &owing,
+        packets,
+    };
+    standing.sends(now, delivery, seal, draw, &mut outs);
     Ok(outs)
 }
 

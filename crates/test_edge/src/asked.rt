@@ -1,6 +1,6 @@
 //! What the adapters ask of the library, in order, noted by stand-ins for its sockets and its clock.
 
-ghost use Rattle.std.specs.Prelude.{◌≡◌, IfOk};
+ghost use Rattle.std.specs.Prelude.{◌≡◌, true, IfOk};
 
 use mt_edge::{
     Act, Clock, Got, Link, Linked, Net, Put, ReadSource, Sink, Source, SystemClock, TcpNet,
@@ -168,108 +168,172 @@ impl<'a> AsRawFd for NotedListener<'a> {
     }
 }
 
-/// The digits of what was asked so far, which are forgotten.
-fn asked(notes: &Notes) -> u64 {
-    let calls = notes.calls.get();
+/// What was asked so far: the digits of the calls, and the bytes that the last one was given. They are forgotten.
+fn asked(notes: &Notes) -> (u64, usize) {
+    let asked = (notes.calls.get(), notes.offered.get());
     notes.calls.set(0);
-    calls
+    notes.offered.set(0);
+    asked
 }
 
-/// A port of 127.0.0.1.
-fn local(port: u16) -> SocketAddr {
-    SocketAddr::from((Ipv4Addr::LOCALHOST, port))
+/// What was asked so far, and whether this port of 127.0.0.1 was told.
+fn asked_of(notes: &Notes, port: u16) -> ((u64, usize), bool) {
+    let local = SocketAddr::from((Ipv4Addr::LOCALHOST, port));
+    (asked(notes), notes.address.get() == local)
+}
+
+/// A net over these sockets.
+type NotedNet<'a> = TcpNet<NotedSockets<'a>>;
+
+/// A link of it.
+type NotedLink<'a> = <NotedNet<'a> as Net>::L;
+
+fn noted_net(notes: &Notes) -> NotedNet<'_> {
+    TcpNet::new(NotedSockets { notes })
+}
+
+fn is_link(linked: Linked<NotedLink<'_>>) -> bool {
+    match linked {
+        Linked::Link(_) => true,
+        Linked::Failed => false,
+    }
+}
+
+/// Whether a connection is taken, which is let go of.
+fn accepts(net: &mut NotedNet<'_>) -> bool {
+    is_link(net.accept())
+}
+
+/// Whether one is made to port 80, likewise.
+fn connects(net: &mut NotedNet<'_>) -> bool {
+    is_link(net.connect(80))
+}
+
+fn asks_once(net: &mut NotedNet<'_>, notes: &Notes) -> Result<(), Fail> {
+    let listened = (net.listen(443), asked_of(notes, 443));
+    let accepted = (accepts(net), asked(notes));
+    let connected = (connects(net), asked_of(notes, 80));
+    same(listened, (Act::Ready, ((0x1, 0), true)))?;
+    same(accepted, (true, (0x34, 0)))?;
+    same(connected, (true, ((0x24, 0), true)))
 }
 
 #[test]
 fn a_net_asks_once_for_this_machine(_rt: HostRuntime) -> Result<(), Fail> {
     let notes = Notes::new(false);
-    let mut net = TcpNet::new(NotedSockets { notes: &notes });
-    same(net.listen(443), Act::Ready)?;
-    same(
-        (asked(&notes), notes.address.get() == local(443)),
-        (0x1, true),
-    )?;
-    let Linked::Link(_taken) = net.accept() else {
-        return Err("no link".into());
-    };
-    same(asked(&notes), 0x34)?;
-    let Linked::Link(_made) = net.connect(80) else {
-        return Err("no link".into());
-    };
-    same(
-        (asked(&notes), notes.address.get() == local(80)),
-        (0x24, true),
-    )?;
-    Ok(())
+    let mut net = noted_net(&notes);
+    let done = asks_once(&mut net, &notes);
+    drop(net);
+    done
+}
+
+fn fails_once(net: &mut NotedNet<'_>, notes: &Notes) -> Result<(), Fail> {
+    let listened = (net.listen(443), asked(notes));
+    let connected = (connects(net), asked(notes));
+    let accepted = (accepts(net), asked(notes));
+    same(listened, (Act::Failed, (0x1, 0)))?;
+    same([connected, accepted], [(false, (0x2, 0)), (false, (0, 0))])
 }
 
 #[test]
 fn a_net_asks_once_where_it_fails(_rt: HostRuntime) -> Result<(), Fail> {
     let notes = Notes::new(true);
-    let mut net = TcpNet::new(NotedSockets { notes: &notes });
-    same(net.listen(443), Act::Failed)?;
-    same(asked(&notes), 0x1)?;
-    same(matches!(net.connect(80), Linked::Failed), true)?;
-    same(asked(&notes), 0x2)?;
-    same(matches!(net.accept(), Linked::Failed), true)?;
-    same(asked(&notes), 0)?;
-    Ok(())
+    let mut net = noted_net(&notes);
+    let done = fails_once(&mut net, &notes);
+    drop(net);
+    done
+}
+
+/// What a link answers to a read of nine bytes, and what was asked then.
+fn reads<L: Link>(link: &mut L, notes: &Notes) -> (Got, (u64, usize))
+    ensures same_standing { L.standing link.new ≡ L.standing link.old }
+{
+    let got = link.read(&mut [0u8; 9]);
+    (got, asked(notes))
+}
+
+/// What it answers to a write of three, likewise.
+fn writes<L: Link>(link: &mut L, notes: &Notes) -> (Put, (u64, usize))
+    ensures same_standing { L.standing link.new ≡ L.standing link.old }
+{
+    let put = link.write(b"abc");
+    (put, asked(notes))
+}
+
+/// What is asked where a connection is taken and calls fail from then on, and what its link answers.
+fn broken(net: &mut NotedNet<'_>, notes: &Notes) -> Result<(), Fail> {
+    let Linked::Link(link) = net.connect(80) else {
+        return Err("no link".into());
+    };
+    let mut link = link;
+    let connected = asked(notes);
+    notes.is_failing.set(true);
+    let accepted = (accepts(net), asked(notes));
+    let (read, written) = (reads(&mut link, notes), writes(&mut link, notes));
+    drop(link);
+    same((connected, accepted), ((0x24, 0), (false, (0x3, 0))))?;
+    same(read, (Got::Failed, (0x6, 9)))?;
+    same(written, (Put::Failed, (0x78, 3)))
 }
 
 #[test]
 fn what_fails_is_asked_once(_rt: HostRuntime) -> Result<(), Fail> {
     let notes = Notes::new(false);
-    let mut net = TcpNet::new(NotedSockets { notes: &notes });
-    same(net.listen(443), Act::Ready)?;
+    let mut net = noted_net(&notes);
+    let listened = (net.listen(443), asked(&notes));
+    let done = broken(&mut net, &notes);
+    drop(net);
+    done?;
+    same(listened, (Act::Ready, (0x1, 0)))
+}
+
+/// What is asked where a link is closed, and what it answers then.
+fn closed<L: Link>(link: &mut L, notes: &Notes) -> Result<(), Fail>
+    ensures closed { (L.standing link.new).closed ≡ true }
+{
+    link.close();
+    let closed = asked(notes);
+    let (read, written) = (reads(link, notes), writes(link, notes));
+    same(closed, (0x5, 0))?;
+    same(read, (Got::Failed, (0, 0)))?;
+    same(written, (Put::Failed, (0, 0)))
+}
+
+fn hands_on(net: &mut NotedNet<'_>, notes: &Notes) -> Result<(), Fail> {
     let Linked::Link(link) = net.connect(80) else {
         return Err("no link".into());
     };
     let mut link = link;
-    same(asked(&notes), 0x124)?;
-    notes.is_failing.set(true);
-    same(matches!(net.accept(), Linked::Failed), true)?;
-    same(asked(&notes), 0x3)?;
-    same(link.read(&mut [0u8; 9]), Got::Failed)?;
-    same(asked(&notes), 0x6)?;
-    same(link.write(b"abc"), Put::Failed)?;
-    same(asked(&notes), 0x78)?;
-    Ok(())
+    let connected = asked(notes);
+    let (read, written) = (reads(&mut link, notes), writes(&mut link, notes));
+    let closed = closed(&mut link, notes);
+    net.done(link);
+    closed?;
+    same([connected, asked(notes)], [(0x24, 0), (0, 0)])?;
+    same(read, (Got::Bytes(1), (0x6, 9)))?;
+    same(written, (Put::Took(2), (0x78, 3)))
 }
 
 #[test]
 fn a_link_hands_on_whole_pieces_once(_rt: HostRuntime) -> Result<(), Fail> {
     let notes = Notes::new(false);
-    let mut net = TcpNet::new(NotedSockets { notes: &notes });
-    let Linked::Link(link) = net.connect(80) else {
-        return Err("no link".into());
-    };
-    let mut link = link;
-    let mut into = [0u8; 9];
-    same(asked(&notes), 0x24)?;
-    same(link.read(&mut into), Got::Bytes(1))?;
-    same((asked(&notes), notes.offered.get()), (0x6, 9))?;
-    same(link.write(b"abc"), Put::Took(2))?;
-    same((asked(&notes), notes.offered.get()), (0x78, 3))?;
-    link.close();
-    same(asked(&notes), 0x5)?;
-    same(link.read(&mut into), Got::Failed)?;
-    same(link.write(b"c"), Put::Failed)?;
-    net.done(link);
-    same(asked(&notes), 0)?;
-    Ok(())
+    let mut net = noted_net(&notes);
+    let done = hands_on(&mut net, &notes);
+    drop(net);
+    done
 }
 
 #[test]
 fn a_source_and_a_sink_hand_on_whole_pieces_once(_rt: HostRuntime) -> Result<(), Fail> {
     let notes = Notes::new(false);
-    let mut into = [0u8; 9];
     let mut source = ReadSource::new(NotedStream { notes: &notes });
-    same(source.read(&mut into), Got::Bytes(1))?;
-    same((asked(&notes), notes.offered.get()), (0x6, 9))?;
+    let read = (source.read(&mut [0u8; 9]), asked(&notes));
+    drop(source);
     let mut sink = WriteSink::new(NotedStream { notes: &notes });
-    same(sink.write(b"abc"), Put::Took(2))?;
-    same((asked(&notes), notes.offered.get()), (0x78, 3))?;
-    Ok(())
+    let written = (sink.write(b"abc"), asked(&notes));
+    drop(sink);
+    same(read, (Got::Bytes(1), (0x6, 9)))?;
+    same(written, (Put::Took(2), (0x78, 3)))
 }
 
 /// A clock that stands still, or that can't be read.

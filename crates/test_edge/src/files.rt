@@ -50,17 +50,14 @@ fn loses(disk: &MemDisk, alloc: Global, acts: usize, want: &[u8]) -> Result<bool
 }
 
 fn keeps_what_was_added(disk: &mut MemDisk, alloc: Global) -> Result<(), Fail> {
-    same(add(disk, b"cd"), Act::Ready)?;
-    same(add(disk, b"ef"), Act::Failed)?;
-    same(byte_at(disk, 0), Some(b'a'))?;
-    same(
-        (disk.contents(), disk.calls().last().copied(), disk.faults()),
-        (
-            b"abcd".as_slice(),
-            Some(DiskCall::Read { at: 0, count: 1 }),
-            1,
-        ),
-    )?;
+    let added = [add(disk, b"cd"), add(disk, b"ef")];
+    let first = byte_at(disk, 0);
+    let last = disk.calls().last().copied();
+    let holds_both = disk.contents() == b"abcd".as_slice();
+    let faults = disk.faults();
+    same(added, [Act::Ready, Act::Failed])?;
+    same(last, Some(DiskCall::Read { at: 0, count: 1 }))?;
+    same((first, holds_both, faults), (Some(b'a'), true, 1))?;
     holds(loses(disk, alloc, 1, b"ab")? && loses(disk, alloc, 2, b"abcd")?)
 }
 
@@ -149,19 +146,19 @@ fn is_file(file: Option<&MemFile>, name: &[u8], contents: &[u8]) -> bool {
 }
 
 fn have_names(disks: &mut MemDisks) -> Result<(), Fail> {
-    holds(
-        add_by_name(disks, "journal", b"x") == Act::Failed
-            && add_by_name(disks, "journal", b"y") == Act::Ready,
-    )?;
-    same(
-        (
-            first_beside(disks, "journal", "other"),
-            first_beside(disks, "other", "other"),
-        ),
-        (Some(b'y'), None),
-    )?;
-    holds(is_file(disks.files().first(), b"journal", b"y"))?;
-    same((disks.asked().len(), disks.faults()), (6, 2))
+    let added = [
+        add_by_name(disks, "journal", b"x"),
+        add_by_name(disks, "journal", b"y"),
+    ];
+    let firsts = [
+        first_beside(disks, "journal", "other"),
+        first_beside(disks, "other", "other"),
+    ];
+    let is_y = is_file(disks.files().first(), b"journal", b"y");
+    let counts = (is_y, disks.asked().len(), disks.faults());
+    same(added, [Act::Failed, Act::Ready])?;
+    same(firsts, [Some(b'y'), None])?;
+    same(counts, (true, 6, 2))
 }
 
 #[test]
@@ -174,17 +171,17 @@ fn files_in_memory_by_name(rt: HostRuntime) -> Result<(), Fail> {
 
 /// What is written of a file is there, and is cut.
 fn is_kept<F: Read + Write + Seek + OpenFile + Drop>(disk: &mut FileDisk<F>) -> Result<(), Fail> {
-    same(add(disk, b"abc"), Act::Ready)?;
-    same((disk.cut(1), disk.len()), (Act::Ready, DiskLen::Len(1)))?;
+    let added = add(disk, b"abc");
+    let cut = (disk.cut(1), disk.len());
+    let written = (disk.write(1, b"xyz"), disk.len());
+    let bytes = [byte_at(disk, 0), byte_at(disk, 2)];
+    let past = disk.read(3, &mut [0u8; 2]);
     same(
-        (disk.write(1, b"xyz"), byte_at(disk, 2)),
-        (Act::Ready, Some(b'y')),
+        [cut, written],
+        [(Act::Ready, DiskLen::Len(1)), (Act::Ready, DiskLen::Len(4))],
     )?;
-    same(
-        (byte_at(disk, 0), disk.len()),
-        (Some(b'a'), DiskLen::Len(4)),
-    )?;
-    same(disk.read(3, &mut [0u8; 2]), Act::Failed)
+    same(bytes, [Some(b'a'), Some(b'y')])?;
+    same([added, past], [Act::Ready, Act::Failed])
 }
 
 /// The same of the file of this name.

@@ -45,18 +45,34 @@ fn take_and_give_back<N: Net>(net: &mut N) -> bool
     }
 }
 
-fn cuts_fails_and_ends(link: &mut MemLink) -> Result<(), Fail> {
+/// What a read gives, and the first bytes then.
+fn read<L: Link>(link: &mut L) -> (Got, [u8; 3]) {
     let mut into = [0u8; 8];
-    same(link.read(&mut into), Got::Bytes(3))?;
-    same(&into[..3], b"hel".as_slice())?;
-    same(link.read(&mut into), Got::Failed)?;
-    same(link.read(&mut into), Got::Bytes(2))?;
-    same(&into[..2], b"lo".as_slice())?;
-    same(link.read(&mut into), Got::End)?;
-    same(link.write(b"abcd"), Put::Took(3))?;
-    same(link.write(b"de"), Put::Failed)?;
-    same(link.read(&mut into), Got::Failed)?;
-    same(link.faults(), 3)
+    let got = link.read(&mut into);
+    (got, [into[0], into[1], into[2]])
+}
+
+/// What a write of a piece gives, which isn't empty.
+fn write<L: Link>(link: &mut L, piece: &[u8; 4]) -> Put {
+    link.write(piece)
+}
+
+fn cuts_fails_and_ends(link: &mut MemLink) -> Result<(), Fail> {
+    let reads = [read(link), read(link), read(link), read(link)];
+    let writes = [write(link, b"abcd"), write(link, b"defg")];
+    let last = read(link);
+    let faults = link.faults();
+    same(
+        reads,
+        [
+            (Got::Bytes(3), *b"hel"),
+            (Got::Failed, [0; 3]),
+            (Got::Bytes(2), *b"lo\0"),
+            (Got::End, [0; 3]),
+        ],
+    )?;
+    same(writes, [Put::Took(3), Put::Failed])?;
+    same((last.0, faults), (Got::Failed, 3))
 }
 
 #[test]
@@ -197,30 +213,34 @@ fn make_odd(is_short: bool, fails_flush: bool) -> Odd {
     }
 }
 
+/// What a read gives, and the count of faults then.
+fn read_once<R: Read + Drop>(source: ReadSource<R>) -> (Got, u64) {
+    let mut source = source;
+    let got = source.read(&mut [0u8; 4]);
+    (got, source.faults())
+}
+
 fn sources_of_std_fail() -> Result<(), Fail> {
-    let mut into = [0u8; 4];
-    let mut source = ReadSource::new(make_odd(true, false));
-    same(source.read(&mut into), Got::Failed)?;
-    same(source.faults(), 1)?;
-    let mut source = ReadSource::new(b"".as_slice());
-    same(source.read(&mut into), Got::End)?;
-    same(source.faults(), 0)
+    let odd = read_once(ReadSource::new(make_odd(true, false)));
+    let empty = read_once(ReadSource::new(b"".as_slice()));
+    same([odd, empty], [(Got::Failed, 1), (Got::End, 0)])
+}
+
+/// What two writes give, each with the count of faults then, and what the object holds and passed on.
+fn write_twice(odd: Odd) -> ([(Put, u64); 2], [u64; 2]) {
+    let mut sink = WriteSink::new(odd);
+    let first = (sink.write(b"abc"), sink.faults());
+    let second = (sink.write(b"bc"), sink.faults());
+    let odd = sink.into_inner();
+    ([first, second], [odd.held, odd.passed])
 }
 
 fn sinks_of_std_fail() -> Result<(), Fail> {
-    let mut sink = WriteSink::new(make_odd(false, false));
-    same(sink.write(b"abc"), Put::Failed)?;
-    same(sink.faults(), 1)?;
-    let mut sink = WriteSink::new(make_odd(true, true));
-    same(sink.write(b"abc"), Put::Failed)?;
-    same(sink.write(b"abc"), Put::Failed)?;
-    same(sink.faults(), 2)?;
-    same(sink.into_inner().held, 1)?;
-    let mut sink = WriteSink::new(make_odd(true, false));
-    same(sink.write(b"abc"), Put::Took(1))?;
-    same(sink.write(b"bc"), Put::Took(1))?;
-    same(sink.faults(), 0)?;
-    same(sink.into_inner().passed, 2)
+    let failed = [(Put::Failed, 1), (Put::Failed, 2)];
+    same(write_twice(make_odd(false, false)), (failed, [0, 0]))?;
+    same(write_twice(make_odd(true, true)), (failed, [1, 0]))?;
+    let took = [(Put::Took(1), 0), (Put::Took(1), 0)];
+    same(write_twice(make_odd(true, false)), (took, [0, 2]))
 }
 
 #[test]
@@ -333,12 +353,10 @@ fn free_port<N: Net>(net: &mut N) -> Option<u16> {
 
 /// Bytes go from one end to the other, and back.
 fn speak<A: Link, B: Link>(near: &mut A, far: &mut B) -> Result<(), Fail> {
-    let mut into = [0u8; 4];
-    same(near.write(b"abc"), Put::Took(3))?;
-    same(far.read(&mut into), Got::Bytes(3))?;
-    same(&into[..3], b"abc".as_slice())?;
-    same(far.write(b"de"), Put::Took(2))?;
-    same(near.read(&mut into), Got::Bytes(2))
+    let there = (near.write(b"abc"), read(far));
+    let back = (far.write(b"de"), read(near));
+    same(there, (Put::Took(3), (Got::Bytes(3), *b"abc")))?;
+    same(back, (Put::Took(2), (Got::Bytes(2), *b"de\0")))
 }
 
 /// Two ends speak; what the near one reads where the far one is closed, and what it reads and writes where it is closed itself.

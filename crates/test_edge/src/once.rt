@@ -1,6 +1,6 @@
 //! How often the adapters of files and children ask the library, counted in front of this machine's.
 
-use crate::kids::{life, words};
+use crate::kids::life_of;
 use disks::{Disk, DiskOpen, Disks, FileDisks};
 use mt_edge::{Act, ChildKids, DiskFiles, FileGot, KeyFiles};
 use std::alloc::Allocator;
@@ -189,17 +189,13 @@ fn a_file_is_made_sure_of_once(rt: HostRuntime) -> Result<(), Fail> {
 
 #[test]
 fn a_child_is_started_once(rt: HostRuntime) -> Result<(), Fail> {
-    let alloc = rt.alloc();
-    let program = String::from_str(alloc, "sh")?;
-    let words = words(alloc, "-c", "exit 0")?;
     let count = Cell::new(0);
     let counted = Counted {
         rt: &rt,
         count: &count,
     };
-    let mut kids = ChildKids::new(counted, program);
-    let life = life(&mut kids, alloc, words.as_slice());
+    let mut kids = ChildKids::new(counted, String::from_str(rt.alloc(), "sh")?);
+    let life = life_of(&mut kids, rt.alloc(), "-c", "exit 0");
     drop(kids);
-    drop(words);
-    same((life, count.get()), ((Act::Ready, "end", Act::Ready), 1))
+    same((life?, count.get()), ((Act::Ready, "end", Act::Ready), 1))
 }

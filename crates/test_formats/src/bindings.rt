@@ -3,6 +3,8 @@
 ghost use Rattle.std.specs.Prelude.{◌≡◌, ◌<◌, ◌^◌, length, Ok, IsTrue, IfOk};
 ghost use Rattle.temp_keys.specs.Checking.{IsPermanent, is_temporary};
 
+use crate::digits::array_of;
+use crate::rows::{Asked, are_so};
 use auth_keys::{AuthKey, Ring};
 use draws::{Draw, StepDraw};
 use msg_ids::Moment;
@@ -12,6 +14,7 @@ use std::test::Fail;
 use temp_keys::{BindFault, Binding, Bound, Inner, InnerField, bind_message, check};
 use test_asserts::{holds, same, same_at, shown, tells};
 use test_keys::{KEY_ID, TEMP_ID, both_keys, bytes_from_0_to_255};
+use test_lines::bytes_of;
 
 const NUMBER: u64 = 0x65a1_b2c3_d4e5_f608;
 
@@ -26,15 +29,11 @@ const INNER: Inner = Inner {
 // The message of this number and inner object, with the words of a `StepDraw` as its random bytes. It was made with
 // Python: the equations of the derivation over hashlib's SHA-1, and infinite garble extension block by block over
 // `openssl enc -aes-256-ecb -nopad` of OpenSSL 3.
-const MESSAGE: [u8; 104] = [
-    0x32, 0xd1, 0x58, 0x6e, 0xa4, 0x57, 0xdf, 0xc8, 0xdb, 0x36, 0xcf, 0xb2, 0x46, 0x6c, 0x43, 0x9c,
-    0x72, 0x90, 0x83, 0x36, 0xc3, 0x3a, 0x19, 0x35, 0xb5, 0xc2, 0x55, 0x64, 0x11, 0xce, 0x26, 0x44,
-    0x33, 0x37, 0xd2, 0x89, 0x08, 0x1e, 0x88, 0x16, 0xc9, 0xb7, 0xc9, 0x29, 0xd2, 0x0d, 0xd1, 0x23,
-    0x24, 0x4a, 0x35, 0x6c, 0xc5, 0x6c, 0x46, 0xee, 0x0c, 0xf7, 0xa5, 0xad, 0x56, 0xbf, 0x62, 0x66,
-    0xac, 0xc6, 0x54, 0x6e, 0x21, 0x6f, 0x54, 0x05, 0x19, 0x17, 0x00, 0x2a, 0x26, 0x1a, 0x7c, 0x7b,
-    0xd0, 0xe4, 0xf2, 0xda, 0x3a, 0x05, 0xba, 0x1a, 0x6a, 0xa8, 0x7d, 0xee, 0x50, 0x82, 0x41, 0xed,
-    0x3c, 0xfb, 0xd3, 0x4b, 0x60, 0xe3, 0xf6, 0xfb,
-];
+const MESSAGE: &str = "\
+32d1586ea457dfc8db36cfb2466c439c72908336c33a1935b5c2556411ce2644\
+3337d289081e8816c9b7c929d20dd123244a356cc56c46ee0cf7a5ad56bf6266\
+acc6546e216f54051917002a261a7c7bd0e4f2da3a05ba1a6aa87dee508241ed\
+3cfbd34b60e3f6fb";
 
 #[test]
 fn message_made_outside(rt: HostRuntime) -> Result<(), Fail> {
@@ -45,27 +44,28 @@ fn message_made_outside(rt: HostRuntime) -> Result<(), Fail> {
         &INNER,
         &mut StepDraw::new(),
     )?;
-    same(message.as_slice(), MESSAGE.as_slice())?;
-    Ok(())
+    let digits = hex::encode(rt.alloc(), message.as_slice());
+    drop(message);
+    same(digits?.as_str(), MESSAGE)
 }
 
 // The message. No contract says what it is: such a list is computed by all that looks at it.
-fn message(alloc: Global) -> Result<Octets, Memory> {
-    Octets::copy(alloc, &MESSAGE)
+fn message(alloc: Global) -> Result<Octets, Fail> {
+    bytes_of(alloc, MESSAGE)
 }
 
-// A call, and its answer. The call has the key that is named in it, the number of its message, the nonce, the temporary key, the
+// An answer, and its call. The call has the key that is named in it, the number of its message, the nonce, the temporary key, the
 // session, when it expires, and when it comes; a word stands for what the message has there, and `perm` and `temp` for the keys.
 const ANSWERS: &str = "\
-perm number nonce temp session 7200 7199 = Ok(Bound { temp: 1390049393749643670, perm: 14474384091129631026, expires: 7200 })\n\
-7 number nonce temp session 7200 7199 = Err(NoPerm)\n\
-temp number nonce temp session 7200 7199 = Err(NoPerm)\n\
-perm 8 8 temp session 7200 7199 = Err(Field { which: Number })\n\
-perm number 8 temp 8 7200 7199 = Err(Field { which: Nonce })\n\
-perm number nonce perm session 7200 7199 = Err(Field { which: Temp })\n\
-perm number nonce temp 8 8 7199 = Err(Field { which: Session })\n\
-perm number nonce temp session 8 8 = Err(Field { which: Expires })\n\
-perm number nonce temp session 7200 7200 = Err(Expired)\n";
+Ok(Bound { temp: 1390049393749643670, perm: 14474384091129631026, expires: 7200 }) | perm number nonce temp session 7200 7199\n\
+Err(NoPerm) | 7 number nonce temp session 7200 7199\n\
+Err(NoPerm) | temp number nonce temp session 7200 7199\n\
+Err(Field { which: Number }) | perm 8 8 temp session 7200 7199\n\
+Err(Field { which: Nonce }) | perm number 8 temp 8 7200 7199\n\
+Err(Field { which: Temp }) | perm number nonce perm session 7200 7199\n\
+Err(Field { which: Session }) | perm number nonce temp 8 8 7199\n\
+Err(Field { which: Expires }) | perm number nonce temp session 8 8\n\
+Err(Expired) | perm number nonce temp session 7200 7200\n";
 
 fn number_of(word: &str) -> Result<u64, Fail> {
     match word {
@@ -102,27 +102,23 @@ fn answer(alloc: Global, ring: &Ring, numbers: [u64; 7]) -> Result<Result<Bound,
     Ok(answer)
 }
 
-// The call of a row has the answer of the row.
-fn is_answered(alloc: Global, ring: &Ring, row: &str) -> Result<(), Fail> {
-    let (words, want) = row.split_once(" = ").ok_or("a call and its answer")?;
-    let answer = shown(alloc, &answer(alloc, ring, numbers_of(words)?)?)?;
-    same_at(words, answer.as_str(), want)
+// The answer to a call of these words, as `{:?}` shows it.
+fn shown_answer(alloc: Global, ring: &Ring, words: &str) -> Result<String, Fail> {
+    let answer = answer(alloc, ring, numbers_of(words)?)?;
+    Ok(shown(alloc, &answer)?)
 }
 
-fn are_answered(alloc: Global, ring: &Ring) -> Result<(), Fail> {
-    same(ANSWERS.lines().count(), 9)?;
-    for row in ANSWERS.lines() {
-        is_answered(alloc, ring, row)?;
-    }
-    Ok(())
+/// The call of these words has this answer.
+pub(crate) fn is_answered(alloc: Global, words: &str, want: &str) -> Result<(), Fail> {
+    let ring = both_keys(alloc)?;
+    let answer = shown_answer(alloc, &ring, words);
+    drop(ring);
+    same_at(words, answer?.as_str(), want)
 }
 
 #[test]
 fn calls_and_their_answers(rt: HostRuntime) -> Result<(), Fail> {
-    let ring = both_keys(rt.alloc())?;
-    let done = are_answered(rt.alloc(), &ring);
-    drop(ring);
-    done
+    are_so(rt.alloc(), Asked::Binding, ANSWERS, 9)
 }
 
 // A binding with another message of such a call isn't sealed under the permanent key.
@@ -146,20 +142,32 @@ fn is_unsealed(ring: &Ring, message: Octets) -> Result<(), Fail> {
 }
 
 // The message with the lowest bit of this byte flipped.
-fn flipped(alloc: Global, place: usize) -> Result<Octets, Memory> {
-    let mut bytes = MESSAGE;
+fn flipped(alloc: Global, place: usize) -> Result<Octets, Fail> {
+    let mut bytes: [u8; 104] = array_of(alloc, MESSAGE)?;
     if let Some(byte) = bytes.get_mut(place) {
         *byte ^= 1;
     }
-    Octets::copy(alloc, &bytes)
+    Ok(Octets::copy(alloc, &bytes)?)
+}
+
+// The message cut by a byte.
+fn cut_message(alloc: Global) -> Result<Octets, Fail> {
+    let mut message = message(alloc)?;
+    message.truncate(103);
+    Ok(message)
+}
+
+// The message with a byte behind it.
+fn longer(alloc: Global) -> Result<Octets, Fail> {
+    let mut message = message(alloc)?;
+    message.push_all(alloc, &[0])?;
+    Ok(message)
 }
 
 // A message cut, a longer one, and one with a bit flipped in the identifier, in the message key and in the text.
 fn are_unsealed(alloc: Global, ring: &Ring) -> Result<(), Fail> {
-    is_unsealed(ring, Octets::copy(alloc, &MESSAGE[..103])?)?;
-    let mut longer = message(alloc)?;
-    longer.push_all(alloc, &[0])?;
-    is_unsealed(ring, longer)?;
+    is_unsealed(ring, cut_message(alloc)?)?;
+    is_unsealed(ring, longer(alloc)?)?;
     is_unsealed(ring, flipped(alloc, 0)?)?;
     is_unsealed(ring, flipped(alloc, 8)?)?;
     is_unsealed(ring, flipped(alloc, 103)?)

@@ -4,6 +4,7 @@
 ghost use Rattle.std.specs.Prelude.{◌≡◌};
 ghost use Rattle.msg_key.specs.Keys.{message_key, aes_key};
 
+use crate::digits::array_of;
 use aes_core::Key256;
 use auth_keys::AuthKey;
 use msg_key::{DOWN, UP, aes_of, msg_key};
@@ -11,11 +12,9 @@ use std::test::*;
 use test_asserts::same;
 
 // A plain text with its padding: salt, session, number, sequence number, length, a body of 4 bytes and 12 of padding.
-const PLAIN: [u8; 48] = [
-    0x08, 0x07, 0x06, 0x05, 0x04, 0x03, 0x02, 0x01, 0x18, 0x17, 0x16, 0x15, 0x14, 0x13, 0x12, 0x11,
-    0x04, 0x00, 0x00, 0x00, 0x00, 0x00, 0x00, 0x00, 0x01, 0x00, 0x00, 0x00, 0x04, 0x00, 0x00, 0x00,
-    0xa0, 0xa1, 0xa2, 0xa3, 0x2d, 0x7f, 0x95, 0x4c, 0x2d, 0xf4, 0x51, 0x58, 0x5a, 0xfe, 0x2a, 0x99,
-];
+const PLAIN: &str = "\
+0807060504030201181716151413121104000000000000000100000004000000\
+a0a1a2a32d7f954c2df451585afe2a99";
 
 fn bytes_from_0_to_255() -> [u8; 256] {
     let mut bytes = [0; 256];
@@ -25,55 +24,57 @@ fn bytes_from_0_to_255() -> [u8; 256] {
     bytes
 }
 
-const UP_MESSAGE_KEY: [u8; 16] = [
-    0x54, 0x69, 0x46, 0x23, 0x68, 0xe2, 0xcb, 0x42, 0x56, 0xad, 0x02, 0xab, 0x59, 0xa4, 0xa6, 0xb8,
-];
+const UP_MESSAGE_KEY: &str = "5469462368e2cb4256ad02ab59a4a6b8";
 
-const UP_IV: [u8; 32] = [
-    0xf4, 0xb1, 0xfc, 0xe5, 0x89, 0xa1, 0x1d, 0xf2, 0x54, 0x5f, 0x3d, 0x8a, 0x53, 0xb8, 0x01, 0x28,
-    0x81, 0xf0, 0x6e, 0x16, 0xea, 0x3f, 0xe7, 0x6b, 0xb1, 0x95, 0xa3, 0xb6, 0x91, 0xe0, 0x98, 0xd1,
-];
+const UP_IV: &str = "f4b1fce589a11df2545f3d8a53b8012881f06e16ea3fe76bb195a3b691e098d1";
 
 // A block of zeros under the key of AES.
-const UP_ZEROS: [u8; 16] = [
-    0x8d, 0xff, 0xb6, 0x2f, 0x7b, 0x75, 0xe2, 0xb6, 0xb0, 0xb5, 0x8a, 0x85, 0x7e, 0x31, 0x99, 0x37,
-];
+const UP_ZEROS: &str = "8dffb62f7b75e2b6b0b58a857e319937";
 
-const DOWN_MESSAGE_KEY: [u8; 16] = [
-    0x1e, 0x22, 0xa4, 0x14, 0xe4, 0x37, 0x58, 0x12, 0xab, 0x5a, 0x4a, 0x7c, 0x73, 0x61, 0xd7, 0xf5,
-];
+const DOWN_MESSAGE_KEY: &str = "1e22a414e4375812ab5a4a7c7361d7f5";
 
-const DOWN_IV: [u8; 32] = [
-    0x3e, 0xfb, 0x33, 0x5b, 0xf1, 0xf4, 0xe6, 0x66, 0xee, 0xba, 0x1d, 0x79, 0x23, 0xe0, 0x11, 0x09,
-    0xff, 0x30, 0xa2, 0xbb, 0xa9, 0xde, 0x72, 0xa6, 0x17, 0x3b, 0x92, 0x7a, 0x5d, 0xab, 0x61, 0x4b,
-];
+const DOWN_IV: &str = "3efb335bf1f4e666eeba1d7923e01109ff30a2bba9de72a6173b927a5dab614b";
 
 // A block of zeros under the key of AES.
-const DOWN_ZEROS: [u8; 16] = [
-    0x56, 0x84, 0x47, 0x5e, 0x03, 0x67, 0x7e, 0xfd, 0x25, 0xe3, 0xc7, 0xc9, 0xaa, 0x26, 0x47, 0xf7,
-];
+const DOWN_ZEROS: &str = "5684475e03677efd25e3c7c9aa2647f7";
 
 // What a sealer does: the key of AES of a text. It needs no lemma.
 fn key_of_text(key: &AuthKey, plain: &[u8]) -> Key256
     ensures { result ≡ aes_key key.now 8 (message_key key.now 8 plain.now) }
 {
-    aes_of(key, DOWN, &msg_key(key, DOWN, plain)).0
+    Key256::new(&aes_of(key, DOWN, &msg_key(key, DOWN, plain)).0)
+}
+
+fn zeros_under(key: &Key256) -> [u8; 16] {
+    let mut zeros = [0; 16];
+    key.encrypt_block(&mut zeros);
+    zeros
 }
 
 #[test]
-fn keys_of_both_directions() -> Result<(), Fail> {
+fn keys_upwards(rt: HostRuntime) -> Result<(), Fail> {
     let key = AuthKey::new(&bytes_from_0_to_255());
-    same(msg_key(&key, UP, &PLAIN), UP_MESSAGE_KEY)?;
-    let (cipher_key, iv) = aes_of(&key, UP, &UP_MESSAGE_KEY);
-    let mut zeros = [0; 16];
-    cipher_key.encrypt_block(&mut zeros);
-    same(zeros, UP_ZEROS)?;
-    same(iv, UP_IV)?;
-    same(msg_key(&key, DOWN, &PLAIN), DOWN_MESSAGE_KEY)?;
-    let (_cipher_key, iv) = aes_of(&key, DOWN, &DOWN_MESSAGE_KEY);
-    let mut zeros = [0; 16];
-    key_of_text(&key, &PLAIN).encrypt_block(&mut zeros);
-    same(zeros, DOWN_ZEROS)?;
-    same(iv, DOWN_IV)?;
-    Ok(())
+    let plain: [u8; 48] = array_of(rt.alloc(), PLAIN)?;
+    let message_key = array_of(rt.alloc(), UP_MESSAGE_KEY)?;
+    same(msg_key(&key, UP, &plain), message_key)?;
+    let (cipher_key, iv) = aes_of(&key, UP, &message_key);
+    same(
+        zeros_under(&Key256::new(&cipher_key)),
+        array_of(rt.alloc(), UP_ZEROS)?,
+    )?;
+    same(iv, array_of(rt.alloc(), UP_IV)?)
+}
+
+#[test]
+fn keys_downwards(rt: HostRuntime) -> Result<(), Fail> {
+    let key = AuthKey::new(&bytes_from_0_to_255());
+    let plain: [u8; 48] = array_of(rt.alloc(), PLAIN)?;
+    let message_key = array_of(rt.alloc(), DOWN_MESSAGE_KEY)?;
+    same(msg_key(&key, DOWN, &plain), message_key)?;
+    let (_cipher_key, iv) = aes_of(&key, DOWN, &message_key);
+    same(
+        zeros_under(&key_of_text(&key, &plain)),
+        array_of(rt.alloc(), DOWN_ZEROS)?,
+    )?;
+    same(iv, array_of(rt.alloc(), DOWN_IV)?)
 }

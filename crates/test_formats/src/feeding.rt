@@ -4,6 +4,8 @@ use framing::{FrameFault, Next};
 use octets::{Memory, Octets};
 use std::alloc::Global;
 use std::test::Fail;
+use test_asserts::{holds_at, same_at};
+use test_lines::bytes_of;
 
 /// What came of a stream.
 pub(crate) enum Given {
@@ -16,7 +18,10 @@ pub(crate) enum Given {
 }
 
 /// What reads frames from a stream.
-pub(crate) trait Frames {
+pub(crate) trait Frames: Drop {
+    /// A new one, of the padded form where there is one.
+    fn begin(alloc: Global, padded: bool) -> Self;
+
     /// A piece of the stream comes.
     fn take(&mut self, alloc: Global, piece: &[u8]) -> Result<(), Memory>;
 
@@ -75,13 +80,14 @@ fn feed<D: Frames>(
 }
 
 /// How many packets a stream gives that is fed in pieces of this size, whether they are this text, and its fault.
-pub(crate) fn read<D: Frames + Drop>(
-    mut frames: D,
+pub(crate) fn read<D: Frames>(
+    frames: D,
     alloc: Global,
     stream: &[u8],
     size: usize,
     want: &[u8],
 ) -> Result<(usize, bool, Option<FrameFault>), Fail> {
+    let mut frames = frames;
     let mut text = Octets::new(alloc);
     let fed = feed(&mut frames, alloc, stream, size, &mut text);
     drop(frames);
@@ -89,4 +95,44 @@ pub(crate) fn read<D: Frames + Drop>(
     drop(text);
     let (count, fault) = fed?;
     Ok((count, same, fault))
+}
+
+// How many packets of `6cfeffff` a stream gives that is fed in pieces of this size, no more than one, and its fault.
+fn told<D: Frames>(
+    frames: D,
+    alloc: Global,
+    stream: &[u8],
+    size: usize,
+    due: &str,
+) -> Result<String, Fail> {
+    let want: &[u8] = if due.starts_with('1') {
+        b"\x6c\xfe\xff\xff"
+    } else {
+        b""
+    };
+    let (count, same, fault) = read(frames, alloc, stream, size, want)?;
+    holds_at(due, same)?;
+    Ok(format!(in alloc; "{count} {fault:?}")?)
+}
+
+// The same for pieces of many sizes.
+fn are_told<D: Frames>(alloc: Global, padded: bool, stream: &[u8], due: &str) -> Result<(), Fail> {
+    for size in [1, 3, 7, 9, 16] {
+        let found = told(D::begin(alloc, padded), alloc, stream, size, due)?;
+        same_at(size, found.as_str(), due)?;
+    }
+    Ok(())
+}
+
+/// A stream of these digits gives so many packets, each `6cfeffff`, no more than one, and this fault.
+pub(crate) fn gives<D: Frames>(
+    alloc: Global,
+    padded: bool,
+    digits: &str,
+    due: &str,
+) -> Result<(), Fail> {
+    let stream = bytes_of(alloc, digits)?;
+    let done = are_told::<D>(alloc, padded, stream.as_slice(), due);
+    drop(stream);
+    done
 }

@@ -8,11 +8,12 @@ ghost use Rattle.framing.specs.Holding.{Stands};
 ghost use Rattle.frame_full.specs.Full.{full, frame_of};
 
 use crate::feeding::{Frames, Given, put_next, read};
+use crate::rows::{Asked, are_so};
 use frame_full::{Deframer, FrameFault, Framer, Next};
 use octets::{Memory, Octets};
 use std::alloc::Global;
 use std::test::*;
-use test_asserts::{holds, holds_at, same, same_at, shown};
+use test_asserts::{holds, same};
 
 // Feeds a piece and copies the packet that comes next, where there is one.
 fn take_packet(
@@ -83,6 +84,10 @@ fn written_and_read(
 }
 
 impl Frames for Deframer {
+    fn begin(alloc: Global, _padded: bool) -> Deframer {
+        Deframer::new(alloc)
+    }
+
     fn take(&mut self, alloc: Global, piece: &[u8]) -> Result<(), Memory> {
         self.feed(alloc, piece)
     }
@@ -117,35 +122,20 @@ fn frames_are_counted(rt: HostRuntime) -> Result<(), Fail> {
     Ok(())
 }
 
-// The bytes of a stream, and its fault. No packet comes.
+// How many packets come, the fault, and the bytes of the stream.
 const STREAMS: &str = "\
-0b0000 None\n\
-0b000000 Some(BadLength { len: 11 })\n\
-0c000000 Some(BadLength { len: 12 })\n\
-12000000 Some(BadLength { len: 18 })\n\
-0c001000 None\n\
-10001000 Some(TooLong { len: 1048592 })\n\
-10000000000000006cfeffff0d2f4187 Some(Sum { said: 2269196045, found: 121712397 })\n\
-10000000010000006cfeffff932febcb Some(Count { said: 1, want: 0 })\n";
-
-// The stream of a row, fed in pieces of this size, gives the fault that the row says.
-fn is_read(alloc: Global, row: &str, size: usize) -> Result<(), Fail> {
-    let (stream, due) = row.split_once(' ').ok_or("a stream and its fault")?;
-    let stream = hex::decode(alloc, stream).ok().ok_or("digits")?;
-    let (_, same, fault) = read(Deframer::new(alloc), alloc, stream.as_slice(), size, b"")?;
-    holds_at(row, same)?;
-    same_at(row, shown(alloc, &fault)?.as_str(), due)
-}
+0 None | 0b0000\n\
+0 Some(BadLength { len: 11 }) | 0b000000\n\
+0 Some(BadLength { len: 12 }) | 0c000000\n\
+0 Some(BadLength { len: 18 }) | 12000000\n\
+0 None | 0c001000\n\
+0 Some(TooLong { len: 1048592 }) | 10001000\n\
+0 Some(Sum { said: 2269196045, found: 121712397 }) | 10000000000000006cfeffff0d2f4187\n\
+0 Some(Count { said: 1, want: 0 }) | 10000000010000006cfeffff932febcb\n";
 
 #[test]
 fn rows_of_faults(rt: HostRuntime) -> Result<(), Fail> {
-    same(STREAMS.lines().count(), 8)?;
-    for row in STREAMS.lines() {
-        is_read(rt.alloc(), row, 1)?;
-        is_read(rt.alloc(), row, 7)?;
-        is_read(rt.alloc(), row, 16)?;
-    }
-    Ok(())
+    are_so(rt.alloc(), Asked::Full, STREAMS, 8)
 }
 
 // A payload of this byte is written, and read into a packet.

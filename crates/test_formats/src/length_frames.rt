@@ -6,11 +6,12 @@ ghost use Rattle.frame_len.specs.Lengths.{IsWritten, frame_of};
 ghost use Rattle.frame_len.specs.Reading.{StandsFor};
 
 use crate::feeding::{Frames, Given, put_next, read};
+use crate::rows::{Asked, are_so};
 use frame_len::{Deframer, FrameFault, Framer, Next};
 use octets::{Memory, Octets};
 use std::alloc::Global;
 use std::test::*;
-use test_asserts::{holds, holds_at, same, same_at};
+use test_asserts::{holds, same, same_at};
 
 // Feeds a piece and copies the packet that comes next, where there is one.
 fn take_packet(
@@ -58,6 +59,10 @@ fn written_and_read(
 }
 
 impl Frames for Deframer {
+    fn begin(alloc: Global, padded: bool) -> Deframer {
+        Deframer::new(alloc, padded)
+    }
+
     fn take(&mut self, alloc: Global, piece: &[u8]) -> Result<(), Memory> {
         self.feed(alloc, piece)
     }
@@ -67,72 +72,31 @@ impl Frames for Deframer {
     }
 }
 
-// The form, the bytes of a stream, how many packets come, and the fault.
-const STREAMS: &str = "\
-intermediate  0 None\n\
-intermediate 040000006cfeff 0 None\n\
-intermediate 040000006cfeffff 1 None\n\
-padded 040000006cfeffff 1 None\n\
-padded 050000006cfeffff 0 None\n\
-padded 050000006cfeffff01 1 None\n\
-intermediate 00001000 0 None\n\
-intermediate 04001000 0 Some(TooLong { len: 1048580 })\n\
-intermediate 05001000 0 Some(TooLong { len: 1048581 })\n\
-padded 07001000 0 None\n\
-padded 08001000 0 Some(TooLong { len: 1048584 })\n\
-intermediate 05000000 0 Some(BadLength { len: 5 })\n\
-intermediate 00000000 0 Some(BadLength { len: 0 })\n\
-padded 00000000 0 Some(BadLength { len: 0 })\n\
-padded 03000000 0 Some(BadLength { len: 3 })\n\
-padded 030000 0 None\n";
+// How many packets come, the fault, and the bytes of the stream.
+const INTERMEDIATE: &str = "\
+0 None | \n\
+0 None | 040000006cfeff\n\
+1 None | 040000006cfeffff\n\
+0 None | 00001000\n\
+0 Some(TooLong { len: 1048580 }) | 04001000\n\
+0 Some(TooLong { len: 1048581 }) | 05001000\n\
+0 Some(BadLength { len: 5 }) | 05000000\n\
+0 Some(BadLength { len: 0 }) | 00000000\n";
 
-// Whether a word is that of the padded form.
-fn is_padded(form: &str) -> Result<bool, Fail> {
-    match form {
-        "padded" => Ok(true),
-        "intermediate" => Ok(false),
-        _ => Err(Fail::new("no form")),
-    }
-}
-
-// What a stream gives that is fed in pieces of this size; each packet is `6cfeffff`.
-fn given(
-    alloc: Global,
-    padded: bool,
-    stream: &[u8],
-    size: usize,
-    due: &str,
-) -> Result<String, Fail> {
-    let want: &[u8] = if due.starts_with('1') {
-        b"\x6c\xfe\xff\xff"
-    } else {
-        b""
-    };
-    let (count, same, fault) = read(Deframer::new(alloc, padded), alloc, stream, size, want)?;
-    holds_at(due, same)?;
-    Ok(format!(in alloc; "{count} {fault:?}")?)
-}
-
-// The stream of a row gives what the row says.
-fn is_read(alloc: Global, row: &str) -> Result<(), Fail> {
-    let (form, rest) = row.split_once(' ').ok_or("a form")?;
-    let (stream, due) = rest.split_once(' ').ok_or("a stream and what it gives")?;
-    let stream = hex::decode(alloc, stream).ok().ok_or("digits")?;
-    let padded = is_padded(form)?;
-    for size in [1, 3, 9] {
-        let found = given(alloc, padded, stream.as_slice(), size, due)?;
-        same_at(row, found.as_str(), due)?;
-    }
-    Ok(())
-}
+const PADDED: &str = "\
+1 None | 040000006cfeffff\n\
+0 None | 050000006cfeffff\n\
+1 None | 050000006cfeffff01\n\
+0 None | 07001000\n\
+0 Some(TooLong { len: 1048584 }) | 08001000\n\
+0 Some(BadLength { len: 0 }) | 00000000\n\
+0 Some(BadLength { len: 3 }) | 03000000\n\
+0 None | 030000\n";
 
 #[test]
 fn rows_of_streams(rt: HostRuntime) -> Result<(), Fail> {
-    same(STREAMS.lines().count(), 16)?;
-    for row in STREAMS.lines() {
-        is_read(rt.alloc(), row)?;
-    }
-    Ok(())
+    are_so(rt.alloc(), Asked::Intermediate, INTERMEDIATE, 8)?;
+    are_so(rt.alloc(), Asked::Padded, PADDED, 8)
 }
 
 // Bytes of frames. No contract says what they are: such a list is computed by all that looks at it.

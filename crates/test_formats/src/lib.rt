@@ -10,6 +10,8 @@ mod blocks;
 #[cfg(test)]
 mod derived;
 #[cfg(test)]
+mod digits;
+#[cfg(test)]
 mod feeding;
 #[cfg(test)]
 mod files;
@@ -21,6 +23,8 @@ mod length_frames;
 mod modes;
 #[cfg(test)]
 mod rings;
+#[cfg(test)]
+mod rows;
 #[cfg(test)]
 mod schedules;
 #[cfg(test)]

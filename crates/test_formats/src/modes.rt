@@ -3,132 +3,135 @@
 ghost use Rattle.std.specs.Prelude.{◌≡◌, ◌%◌, length};
 ghost use Rattle.cipher_modes.specs.CounterMode.{applied, advanced};
 
+use crate::digits::array_of;
 use aes_core::Key256;
 use cipher_modes::{Ctr, ige_decrypt, ige_encrypt};
+use std::alloc::Global;
 use std::test::Fail;
-use test_asserts::{same, same_at, shows};
+use test_asserts::{holds, same, same_at, shows};
 
 // The key of FIPS 197's first edition (2001), appendix C.3, its block, and the block's answer.
-const KEY: [u8; 32] = [
-    0x00, 0x01, 0x02, 0x03, 0x04, 0x05, 0x06, 0x07, 0x08, 0x09, 0x0a, 0x0b, 0x0c, 0x0d, 0x0e, 0x0f,
-    0x10, 0x11, 0x12, 0x13, 0x14, 0x15, 0x16, 0x17, 0x18, 0x19, 0x1a, 0x1b, 0x1c, 0x1d, 0x1e, 0x1f,
-];
+const KEY: &str = "000102030405060708090a0b0c0d0e0f101112131415161718191a1b1c1d1e1f";
 
-const BLOCK: [u8; 16] = [
-    0x00, 0x11, 0x22, 0x33, 0x44, 0x55, 0x66, 0x77, 0x88, 0x99, 0xaa, 0xbb, 0xcc, 0xdd, 0xee, 0xff,
-];
+const BLOCK: &str = "00112233445566778899aabbccddeeff";
 
-const BLOCK_ENCIPHERED: [u8; 16] = [
-    0x8e, 0xa2, 0xb7, 0xca, 0x51, 0x67, 0x45, 0xbf, 0xea, 0xfc, 0x49, 0x90, 0x4b, 0x49, 0x60, 0x89,
-];
+const BLOCK_ENCIPHERED: &str = "8ea2b7ca516745bfeafc49904b496089";
 
 // Five blocks under the key above. The answer was computed with the AES-256 block of Python's
 // `cryptography` 48.0.0 (OpenSSL 3) and the equation of the mode, a line a block.
-const IGE_IV: [u8; 32] = [
-    0x20, 0x21, 0x22, 0x23, 0x24, 0x25, 0x26, 0x27, 0x28, 0x29, 0x2a, 0x2b, 0x2c, 0x2d, 0x2e, 0x2f,
-    0x30, 0x31, 0x32, 0x33, 0x34, 0x35, 0x36, 0x37, 0x38, 0x39, 0x3a, 0x3b, 0x3c, 0x3d, 0x3e, 0x3f,
-];
+const IGE_IV: &str = "202122232425262728292a2b2c2d2e2f303132333435363738393a3b3c3d3e3f";
 
-const IGE_PLAIN: [u8; 80] = [
-    0x03, 0x0a, 0x11, 0x18, 0x1f, 0x26, 0x2d, 0x34, 0x3b, 0x42, 0x49, 0x50, 0x57, 0x5e, 0x65, 0x6c,
-    0x73, 0x7a, 0x81, 0x88, 0x8f, 0x96, 0x9d, 0xa4, 0xab, 0xb2, 0xb9, 0xc0, 0xc7, 0xce, 0xd5, 0xdc,
-    0xe3, 0xea, 0xf1, 0xf8, 0xff, 0x06, 0x0d, 0x14, 0x1b, 0x22, 0x29, 0x30, 0x37, 0x3e, 0x45, 0x4c,
-    0x53, 0x5a, 0x61, 0x68, 0x6f, 0x76, 0x7d, 0x84, 0x8b, 0x92, 0x99, 0xa0, 0xa7, 0xae, 0xb5, 0xbc,
-    0xc3, 0xca, 0xd1, 0xd8, 0xdf, 0xe6, 0xed, 0xf4, 0xfb, 0x02, 0x09, 0x10, 0x17, 0x1e, 0x25, 0x2c,
-];
+const IGE_PLAIN: &str = "\
+030a11181f262d343b424950575e656c737a81888f969da4abb2b9c0c7ced5dc\
+e3eaf1f8ff060d141b222930373e454c535a61686f767d848b9299a0a7aeb5bc\
+c3cad1d8dfe6edf4fb020910171e252c";
 
-const IGE_ENCIPHERED: [u8; 80] = [
-    0x62, 0xdd, 0xe7, 0xa4, 0x35, 0xaf, 0xbc, 0x7b, 0xc6, 0xb1, 0x6a, 0x3b, 0x7d, 0xe4, 0x2d, 0x3e,
-    0xae, 0xb0, 0x24, 0x59, 0xb4, 0x57, 0xbf, 0x8e, 0xa3, 0x5b, 0x5a, 0x86, 0xe0, 0xfb, 0x4e, 0x58,
-    0x93, 0x59, 0x33, 0x75, 0xf4, 0x9a, 0xb3, 0xb9, 0x1e, 0x6e, 0x1c, 0xff, 0x63, 0x8a, 0x85, 0xf9,
-    0x50, 0x0b, 0x4e, 0xac, 0xc2, 0xa0, 0xf8, 0x5a, 0xd4, 0x29, 0xfa, 0x84, 0xc0, 0x72, 0x71, 0xc2,
-    0x4c, 0xa7, 0xf7, 0xd6, 0xaa, 0xd0, 0xac, 0x2c, 0xf5, 0x2f, 0x6a, 0x3a, 0x59, 0x52, 0x1a, 0xf6,
-];
+const IGE_ENCIPHERED: &str = "\
+62dde7a435afbc7bc6b16a3b7de42d3eaeb02459b457bf8ea35b5a86e0fb4e58\
+93593375f49ab3b91e6e1cff638a85f9500b4eacc2a0f85ad429fa84c07271c2\
+4ca7f7d6aad0ac2cf52f6a3a59521af6";
 
 // SP 800-38A, F.5.5.
-const CTR_KEY: [u8; 32] = [
-    0x60, 0x3d, 0xeb, 0x10, 0x15, 0xca, 0x71, 0xbe, 0x2b, 0x73, 0xae, 0xf0, 0x85, 0x7d, 0x77, 0x81,
-    0x1f, 0x35, 0x2c, 0x07, 0x3b, 0x61, 0x08, 0xd7, 0x2d, 0x98, 0x10, 0xa3, 0x09, 0x14, 0xdf, 0xf4,
-];
+const CTR_KEY: &str = "603deb1015ca71be2b73aef0857d77811f352c073b6108d72d9810a30914dff4";
 
-const CTR_COUNTER: [u8; 16] = [
-    0xf0, 0xf1, 0xf2, 0xf3, 0xf4, 0xf5, 0xf6, 0xf7, 0xf8, 0xf9, 0xfa, 0xfb, 0xfc, 0xfd, 0xfe, 0xff,
-];
+const CTR_COUNTER: &str = "f0f1f2f3f4f5f6f7f8f9fafbfcfdfeff";
 
-const CTR_PLAIN: [u8; 64] = [
-    0x6b, 0xc1, 0xbe, 0xe2, 0x2e, 0x40, 0x9f, 0x96, 0xe9, 0x3d, 0x7e, 0x11, 0x73, 0x93, 0x17, 0x2a,
-    0xae, 0x2d, 0x8a, 0x57, 0x1e, 0x03, 0xac, 0x9c, 0x9e, 0xb7, 0x6f, 0xac, 0x45, 0xaf, 0x8e, 0x51,
-    0x30, 0xc8, 0x1c, 0x46, 0xa3, 0x5c, 0xe4, 0x11, 0xe5, 0xfb, 0xc1, 0x19, 0x1a, 0x0a, 0x52, 0xef,
-    0xf6, 0x9f, 0x24, 0x45, 0xdf, 0x4f, 0x9b, 0x17, 0xad, 0x2b, 0x41, 0x7b, 0xe6, 0x6c, 0x37, 0x10,
-];
+const CTR_PLAIN: &str = "\
+6bc1bee22e409f96e93d7e117393172aae2d8a571e03ac9c9eb76fac45af8e51\
+30c81c46a35ce411e5fbc1191a0a52eff69f2445df4f9b17ad2b417be66c3710";
 
-const CTR_ENCIPHERED: [u8; 64] = [
-    0x60, 0x1e, 0xc3, 0x13, 0x77, 0x57, 0x89, 0xa5, 0xb7, 0xa7, 0xf5, 0x04, 0xbb, 0xf3, 0xd2, 0x28,
-    0xf4, 0x43, 0xe3, 0xca, 0x4d, 0x62, 0xb5, 0x9a, 0xca, 0x84, 0xe9, 0x90, 0xca, 0xca, 0xf5, 0xc5,
-    0x2b, 0x09, 0x30, 0xda, 0xa2, 0x3d, 0xe9, 0x4c, 0xe8, 0x70, 0x17, 0xba, 0x2d, 0x84, 0x98, 0x8d,
-    0xdf, 0xc9, 0xc5, 0x8d, 0xb6, 0x7a, 0xad, 0xa6, 0x13, 0xc2, 0xdd, 0x08, 0x45, 0x79, 0x41, 0xa6,
-];
+const CTR_ENCIPHERED: &str = "\
+601ec313775789a5b7a7f504bbf3d228f443e3ca4d62b59aca84e990cacaf5c5\
+2b0930daa23de94ce87017ba2d84988ddfc9c58db67aada613c2dd08457941a6";
 
 // The key streams of a counter that wraps at 128 bits and of one that carries past 64, under the key
 // of FIPS 197 above, by the counter mode of Python's `cryptography` 48.0.0 (OpenSSL 3).
-const WRAPPED_STREAM: [u8; 32] = [
-    0xe9, 0x99, 0xe4, 0x1d, 0x4c, 0xa7, 0x70, 0xda, 0x53, 0x87, 0x11, 0x7b, 0x5d, 0x8f, 0x57, 0xee,
-    0xf2, 0x90, 0x00, 0xb6, 0x2a, 0x49, 0x9f, 0xd0, 0xa9, 0xf3, 0x9a, 0x6a, 0xdd, 0x2e, 0x77, 0x80,
-];
+const WRAPPED_STREAM: &str = "e999e41d4ca770da5387117b5d8f57eef29000b62a499fd0a9f39a6add2e7780";
 
-const CARRIED_COUNTER: [u8; 16] = [
-    0x00, 0x00, 0x00, 0x00, 0x00, 0x00, 0x00, 0x00, 0xff, 0xff, 0xff, 0xff, 0xff, 0xff, 0xff, 0xff,
-];
+const CARRIED_COUNTER: &str = "0000000000000000ffffffffffffffff";
 
-const CARRIED_STREAM: [u8; 32] = [
-    0xa6, 0xfb, 0xdb, 0x5c, 0xfd, 0xe0, 0x7d, 0x1b, 0x58, 0xfd, 0x36, 0x21, 0x77, 0xbc, 0xff, 0xdf,
-    0x51, 0x1d, 0xd5, 0xef, 0x9a, 0x68, 0x2b, 0x7d, 0xa4, 0x9f, 0x91, 0xc8, 0x6c, 0x4f, 0x7a, 0xc3,
-];
+const CARRIED_STREAM: &str = "a6fbdb5cfde07d1b58fd362177bcffdf511dd5ef9a682b7da49f91c86c4f7ac3";
 
-#[test]
-fn ige_of_one_block_under_zeros() -> Result<(), Fail> {
-    let key = Key256::new(&KEY);
-    let mut text = BLOCK;
-    ige_encrypt(&key, &[0; 32], &mut text);
-    same(text, BLOCK_ENCIPHERED)?;
-    ige_decrypt(&key, &[0; 32], &mut text);
-    same(text, BLOCK)?;
-    Ok(())
+// The key of these digits.
+fn key_of(alloc: Global, digits: &str) -> Result<Key256, Fail> {
+    Ok(Key256::new(&array_of(alloc, digits)?))
+}
+
+// A text is enciphered so, and deciphered again.
+fn are_of(key: &Key256, iv: &[u8; 32], plain: &[u8], enciphered: &[u8]) -> Result<(), Fail> {
+    let mut text = [0; 80];
+    let text = text.get_mut(..plain.len()).ok_or("too long")?;
+    text.copy_from_slice(plain);
+    holds(text.len() % 16 == 0)?;
+    ige_encrypt(key, iv, text);
+    let is_enciphered = *text == *enciphered;
+    ige_decrypt(key, iv, text);
+    same((is_enciphered, *text == *plain), (true, true))
 }
 
 #[test]
-fn ige_of_five_blocks() -> Result<(), Fail> {
-    let key = Key256::new(&KEY);
-    let mut text = IGE_PLAIN;
-    ige_encrypt(&key, &IGE_IV, &mut text);
-    same(text, IGE_ENCIPHERED)?;
-    ige_decrypt(&key, &IGE_IV, &mut text);
-    same(text, IGE_PLAIN)?;
-    Ok(())
+fn ige_of_one_block_under_zeros(rt: HostRuntime) -> Result<(), Fail> {
+    let key = key_of(rt.alloc(), KEY)?;
+    let plain: [u8; 16] = array_of(rt.alloc(), BLOCK)?;
+    let enciphered: [u8; 16] = array_of(rt.alloc(), BLOCK_ENCIPHERED)?;
+    are_of(&key, &[0; 32], &plain, &enciphered)
 }
 
 #[test]
-fn ctr_of_the_standard_in_pieces() -> Result<(), Fail> {
+fn ige_of_five_blocks(rt: HostRuntime) -> Result<(), Fail> {
+    let key = key_of(rt.alloc(), KEY)?;
+    let plain: [u8; 80] = array_of(rt.alloc(), IGE_PLAIN)?;
+    let enciphered: [u8; 80] = array_of(rt.alloc(), IGE_ENCIPHERED)?;
+    are_of(&key, &array_of(rt.alloc(), IGE_IV)?, &plain, &enciphered)
+}
+
+// The stream of this key and counter, given in digits.
+fn stream_of(alloc: Global, key: &str, counter: &str) -> Result<Ctr, Fail> {
+    Ok(Ctr::new(&array_of(alloc, key)?, &array_of(alloc, counter)?))
+}
+
+// What a stream makes of a text in pieces of this size.
+fn applied_in_pieces<const N: usize>(
+    stream: &mut Ctr,
+    text: [u8; N],
+    piece_bytes: usize,
+) -> [u8; N] {
+    let mut text = text;
+    for piece in text.chunks_mut(piece_bytes.max(1)) {
+        stream.apply(piece);
+    }
+    text
+}
+
+#[test]
+fn ctr_of_the_standard_in_pieces(rt: HostRuntime) -> Result<(), Fail> {
+    let plain: [u8; 64] = array_of(rt.alloc(), CTR_PLAIN)?;
+    let enciphered: [u8; 64] = array_of(rt.alloc(), CTR_ENCIPHERED)?;
     for piece_bytes in [1, 7, 64] {
-        let mut stream = Ctr::new(&CTR_KEY, &CTR_COUNTER);
-        let mut text = CTR_PLAIN;
-        for piece in text.chunks_mut(piece_bytes) {
-            stream.apply(piece);
-        }
-        same_at(piece_bytes, text, CTR_ENCIPHERED)?;
+        let mut stream = stream_of(rt.alloc(), CTR_KEY, CTR_COUNTER)?;
+        let text = applied_in_pieces(&mut stream, plain, piece_bytes);
+        same_at(piece_bytes, text, enciphered)?;
     }
     Ok(())
 }
 
+// The first 32 bytes of the stream of this counter, under the key of FIPS 197, are these.
+fn begins(alloc: Global, counter: &str, first: &str) -> Result<(), Fail> {
+    let mut stream = stream_of(alloc, KEY, counter)?;
+    same(
+        applied_in_pieces(&mut stream, [0; 32], 32),
+        array_of(alloc, first)?,
+    )
+}
+
 #[test]
-fn ctr_whose_counter_wraps() -> Result<(), Fail> {
-    let mut wrapped = [0; 32];
-    Ctr::new(&KEY, &[0xff; 16]).apply(&mut wrapped);
-    same(wrapped, WRAPPED_STREAM)?;
-    let mut carried = [0; 32];
-    Ctr::new(&KEY, &CARRIED_COUNTER).apply(&mut carried);
-    same(carried, CARRIED_STREAM)?;
-    Ok(())
+fn ctr_whose_counter_wraps(rt: HostRuntime) -> Result<(), Fail> {
+    begins(
+        rt.alloc(),
+        "ffffffffffffffffffffffffffffffff",
+        WRAPPED_STREAM,
+    )?;
+    begins(rt.alloc(), CARRIED_COUNTER, CARRIED_STREAM)
 }
 
 // A caller that has a text back needs no lemma, nor one that takes a stream in pieces.
@@ -150,11 +153,12 @@ fn two_pieces(stream: &mut Ctr, front: &mut [u8], back: &mut [u8])
 
 #[test]
 fn a_stream_does_not_show(rt: HostRuntime) -> Result<(), Fail> {
-    let mut text = IGE_PLAIN;
-    there_and_back(&Key256::new(&KEY), &IGE_IV, &mut text);
-    same(text, IGE_PLAIN)?;
-    let mut stream = Ctr::new(&KEY, &BLOCK);
+    let mut text: [u8; 80] = array_of(rt.alloc(), IGE_PLAIN)?;
+    let plain = text;
+    let iv = array_of(rt.alloc(), IGE_IV)?;
+    there_and_back(&key_of(rt.alloc(), KEY)?, &iv, &mut text);
+    same(text, plain)?;
+    let mut stream = stream_of(rt.alloc(), KEY, BLOCK)?;
     two_pieces(&mut stream, &mut text, &mut [0; 5]);
-    shows(rt.alloc(), &stream, "Ctr { index: 5, used: 5, .. }")?;
-    Ok(())
+    shows(rt.alloc(), &stream, "Ctr { index: 5, used: 5, .. }")
 }

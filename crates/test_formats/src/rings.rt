@@ -7,6 +7,7 @@ ghost use Rattle.auth_keys.specs.Rings.{entry_of};
 ghost use Rattle.auth_keys.specs.declared.key.KeyKind.{KeyKind};
 ghost use Rattle.auth_keys.specs.declared.ring.RingKey.{RingKey};
 
+use crate::rows::{Asked, are_so};
 use auth_keys::{AuthKey, KeyFault, KeyKind, Ring};
 use msg_ids::Moment;
 use std::alloc::{AllocError, Global};
@@ -90,24 +91,24 @@ fn with_digits(alloc: Global, text: &str, up: &str, down: &str) -> Result<String
     text.as_str().replace(alloc, "DOWN", down)
 }
 
-#[test]
-fn rings_and_faults_of_texts(rt: HostRuntime) -> Result<(), Fail> {
-    let alloc = rt.alloc();
+// The same with the digits of both keys.
+fn with_keys(alloc: Global, text: &str) -> Result<String, Fail> {
     let up = hex::encode(alloc, up().as_slice())?;
     let down = hex::encode_upper(alloc, down().as_slice())?;
-    same(TEXTS.lines().count(), 18)?;
-    for row in TEXTS.lines() {
-        is_counted(alloc, row, up.as_str(), down.as_str())?;
-    }
-    Ok(())
+    Ok(with_digits(alloc, text, up.as_str(), down.as_str())?)
 }
 
-// The text of a row is what the row says.
-fn is_counted(alloc: Global, row: &str, up: &str, down: &str) -> Result<(), Fail> {
-    let (want, text) = row.split_once(" | ").ok_or("a count and a text")?;
-    let whole = with_digits(alloc, text, up, down)?;
-    let count = shown(alloc, &count(alloc, whole.as_str()))?;
-    same_at(row, count.as_str(), want)
+/// Such a text has so many keys, or this fault.
+pub(crate) fn is_counted(alloc: Global, text: &str, want: &str) -> Result<(), Fail> {
+    let whole = with_keys(alloc, text)?;
+    let count = count(alloc, whole.as_str());
+    drop(whole);
+    same_at(text, shown(alloc, &count)?.as_str(), want)
+}
+
+#[test]
+fn rings_and_faults_of_texts(rt: HostRuntime) -> Result<(), Fail> {
+    are_so(rt.alloc(), Asked::Ring, TEXTS, 18)
 }
 
 // The text of the keys that have one byte 256 times.

@@ -3,10 +3,11 @@
 ghost use Rattle.std.specs.Prelude.{◌<◌, ◌^◌, ◌⊎◌, length, IfOk};
 ghost use Rattle.sched_text.specs.Schedule.{Spells};
 
+use crate::rows::{Asked, are_so};
 use sched_text::{Events, Lines, SchedFault, call_of, read};
-use std::alloc::Global;
+use std::alloc::{AllocError, Global};
 use std::test::*;
-use test_asserts::{holds, holds_at, same, same_at, shows, tells};
+use test_asserts::{holds, same, same_at, shows, tells};
 
 // The first text's events, or the second's where the first has none.
 fn first_or_second(alloc: Global, first: &[u8], second: &[u8]) -> Result<Events, SchedFault>
@@ -55,15 +56,26 @@ Restart | restart\n\
 Restart | restart;\n\
 Restart | # jump;;#;restart;;# no more\n";
 
-// The text of a row, in which `;` stands for a newline, gives what is shown in the row.
-fn gives(alloc: Global, row: &str) -> Result<(), Fail> {
-    let (want, text) = row.split_once(" | ").ok_or("an event and a text")?;
-    let text = text.replace(alloc, ";", "\n")?;
-    holds(text.len() < 100)?;
-    let events = read(alloc, text.as_bytes())?;
+/// A text, in which `;` stands for a newline, gives the event that is shown so.
+pub(crate) fn gives(alloc: Global, text: &str, want: &str) -> Result<(), Fail> {
+    let text = lines_of(alloc, text)?;
+    let events = events_of(alloc, text.as_str());
+    drop(text);
+    let events = events?;
     let shown = is_shown(alloc, &events, want);
     drop(events);
     shown
+}
+
+/// A text with newlines for `;`.
+pub(crate) fn lines_of(alloc: Global, text: &str) -> Result<String, AllocError> {
+    text.replace(alloc, ";", "\n")
+}
+
+// The events of a short text.
+fn events_of(alloc: Global, text: &str) -> Result<Events, Fail> {
+    holds(text.len() < 100)?;
+    Ok(read(alloc, text.as_bytes())?)
 }
 
 // There is one event, which is shown so.
@@ -74,11 +86,7 @@ fn is_shown(alloc: Global, events: &Events, want: &str) -> Result<(), Fail> {
 
 #[test]
 fn every_line(rt: HostRuntime) -> Result<(), Fail> {
-    same(EVENTS.lines().count(), 32)?;
-    for row in EVENTS.lines() {
-        gives(rt.alloc(), row)?;
-    }
-    Ok(())
+    are_so(rt.alloc(), Asked::Event, EVENTS, 32)
 }
 
 // The bad line of a text, and the text.
@@ -123,28 +131,30 @@ const BAD: &str = "\
 1 | restart 1\n\
 2 | client;jump;leap\n";
 
-// The text of a row has the bad line that the row says.
-fn is_bad(alloc: Global, row: &str) -> Result<(), Fail> {
-    let (line, text) = row.split_once(" | ").ok_or("a line and a text")?;
-    let text = text.replace(alloc, ";", "\n")?;
+// The bad line of a short text.
+fn bad_line(alloc: Global, text: &str) -> Result<Option<u32>, Fail> {
     holds(text.len() < 100)?;
-    let line = line.parse::<u32>()?;
     match read(alloc, text.as_bytes()) {
         Ok(events) => {
             drop(events);
-            holds_at(row, false)
+            Ok(None)
         }
-        Err(fault) => same_at(row, fault, SchedFault::BadLine { line }),
+        Err(SchedFault::BadLine { line }) => Ok(Some(line)),
+        Err(SchedFault::Memory) => Err(Fail::new("out of memory")),
     }
+}
+
+/// A text has this bad line.
+pub(crate) fn is_bad(alloc: Global, text: &str, want: &str) -> Result<(), Fail> {
+    let lines = lines_of(alloc, text)?;
+    let line = bad_line(alloc, lines.as_str());
+    drop(lines);
+    same_at(text, line?, want.parse::<u32>().ok())
 }
 
 #[test]
 fn bad_lines(rt: HostRuntime) -> Result<(), Fail> {
-    same(BAD.lines().count(), 39)?;
-    for row in BAD.lines() {
-        is_bad(rt.alloc(), row)?;
-    }
-    Ok(())
+    are_so(rt.alloc(), Asked::BadEvent, BAD, 39)
 }
 
 #[test]

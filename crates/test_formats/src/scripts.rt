@@ -3,10 +3,12 @@
 ghost use Rattle.std.specs.Prelude.{◌<◌, ◌^◌, ◌⊎◌, length, IfOk};
 ghost use Rattle.call_script.specs.Scripts.{Spells};
 
+use crate::rows::{Asked, are_so};
+use crate::schedules::lines_of;
 use call_script::{Script, ScriptFault, read_script};
 use std::alloc::Global;
 use std::test::*;
-use test_asserts::{holds, holds_at, same, same_at, tells};
+use test_asserts::{holds, same, same_at, tells};
 
 // The first text's calls, or the second's where the first has none.
 fn first_or_second(alloc: Global, first: &[u8], second: &[u8]) -> Result<Script, ScriptFault>
@@ -75,27 +77,34 @@ const BAD: &str = "\
 1 | hex 1\n\
 1 | pad 1048577;jump\n";
 
-// The text of a row has the bad line that the row says.
-fn is_bad(alloc: Global, row: &str) -> Result<(), Fail> {
-    let (line, text) = row.split_once(" | ").ok_or("a line and a text")?;
-    let text = text.replace(alloc, ";", "\n")?;
+// The bad line of a short text.
+fn bad_line(alloc: Global, text: &str) -> Result<Option<u32>, Fail> {
     holds(text.len() < 100)?;
-    let line = line.parse::<u32>()?;
     match read_script(alloc, text.as_bytes()) {
         Ok(script) => {
             drop(script);
-            holds_at(row, false)
+            Ok(None)
         }
-        Err(fault) => same_at(row, fault, ScriptFault::BadLine { line }),
+        Err(ScriptFault::BadLine { line }) => Ok(Some(line)),
+        Err(ScriptFault::Memory) => Err(Fail::new("out of memory")),
     }
+}
+
+/// A text has this bad line.
+pub(crate) fn is_bad(alloc: Global, text: &str, want: &str) -> Result<(), Fail> {
+    let lines = lines_of(alloc, text)?;
+    let line = bad_line(alloc, lines.as_str());
+    drop(lines);
+    same_at(text, line?, want.parse::<u32>().ok())
 }
 
 #[test]
 fn bad_lines(rt: HostRuntime) -> Result<(), Fail> {
-    same(BAD.lines().count(), 10)?;
-    for row in BAD.lines() {
-        is_bad(rt.alloc(), row)?;
-    }
+    are_so(rt.alloc(), Asked::BadCall, BAD, 10)
+}
+
+#[test]
+fn faults_are_told(rt: HostRuntime) -> Result<(), Fail> {
     let fault = ScriptFault::BadLine { line: 7 };
     tells(rt.alloc(), &fault, "line 7 is no call")?;
     tells(rt.alloc(), &ScriptFault::Memory, "out of memory")

@@ -8,11 +8,12 @@ ghost use Rattle.framing.specs.Holding.{Stands};
 ghost use Rattle.frame_short.specs.Abridged.{abridged, frame_of};
 
 use crate::feeding::{Frames, Given, put_next, read};
+use crate::rows::{Asked, are_so};
 use frame_short::{Deframer, FrameFault, Framer, Next};
 use octets::{Memory, Octets};
 use std::alloc::Global;
 use std::test::*;
-use test_asserts::{holds, holds_at, same, same_at};
+use test_asserts::{holds, same};
 
 // Feeds a piece and copies the packet that comes next, where there is one.
 fn take_packet(
@@ -83,6 +84,10 @@ fn written_and_read(
 }
 
 impl Frames for Deframer {
+    fn begin(alloc: Global, _padded: bool) -> Deframer {
+        Deframer::new(alloc)
+    }
+
     fn take(&mut self, alloc: Global, piece: &[u8]) -> Result<(), Memory> {
         self.feed(alloc, piece)
     }
@@ -146,48 +151,21 @@ fn frames_are_read_in_any_pieces(rt: HostRuntime) -> Result<(), Fail> {
     Ok(())
 }
 
-// The bytes of a stream, how many packets come, and the fault.
-const STREAMS: &str = " 0 None\n\
-016cfeff 0 None\n\
-016cfeffff 1 None\n\
-7f0100006cfeffff 1 None\n\
-7f000004 0 None\n\
-7f010004 0 Some(TooLong { len: 1048580 })\n\
-006c 0 Some(BadLength { len: 0 })\n\
-7f000000 0 Some(BadLength { len: 0 })\n\
-80 0 Some(BadLength { len: 128 })\n\
-016cfeffffef 1 Some(BadLength { len: 239 })\n";
-
-// What a stream gives that is fed in pieces of this size; each packet is `6cfeffff`.
-fn given(alloc: Global, stream: &[u8], size: usize, due: &str) -> Result<String, Fail> {
-    let want: &[u8] = if due.starts_with('1') {
-        b"\x6c\xfe\xff\xff"
-    } else {
-        b""
-    };
-    let (count, same, fault) = read(Deframer::new(alloc), alloc, stream, size, want)?;
-    holds_at(due, same)?;
-    Ok(format!(in alloc; "{count} {fault:?}")?)
-}
-
-// The stream of a row gives what the row says.
-fn is_read(alloc: Global, row: &str) -> Result<(), Fail> {
-    let (stream, due) = row.split_once(' ').ok_or("a stream and what it gives")?;
-    let stream = hex::decode(alloc, stream).ok().ok_or("digits")?;
-    for size in [1, 3, 9] {
-        let found = given(alloc, stream.as_slice(), size, due)?;
-        same_at(row, found.as_str(), due)?;
-    }
-    Ok(())
-}
+// How many packets come, the fault, and the bytes of the stream.
+const STREAMS: &str = "0 None | \n\
+0 None | 016cfeff\n\
+1 None | 016cfeffff\n\
+1 None | 7f0100006cfeffff\n\
+0 None | 7f000004\n\
+0 Some(TooLong { len: 1048580 }) | 7f010004\n\
+0 Some(BadLength { len: 0 }) | 006c\n\
+0 Some(BadLength { len: 0 }) | 7f000000\n\
+0 Some(BadLength { len: 128 }) | 80\n\
+1 Some(BadLength { len: 239 }) | 016cfeffffef\n";
 
 #[test]
 fn rows_of_streams(rt: HostRuntime) -> Result<(), Fail> {
-    same(STREAMS.lines().count(), 10)?;
-    for row in STREAMS.lines() {
-        is_read(rt.alloc(), row)?;
-    }
-    Ok(())
+    are_so(rt.alloc(), Asked::Short, STREAMS, 10)
 }
 
 // A payload of this byte is written, and read into a packet.

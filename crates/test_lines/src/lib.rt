@@ -132,8 +132,12 @@ fn put_piece(alloc: Global, into: &mut Octets, piece: &str) -> Result<(), Fail> 
     Ok(())
 }
 
-// The bytes of hexadecimal digits.
-fn bytes_of(alloc: Global, digits: &str) -> Result<Octets, Fail> {
+/// The bytes of hexadecimal digits.
+///
+/// # Errors
+///
+/// Where they are none, or there is no memory.
+pub fn bytes_of(alloc: Global, digits: &str) -> Result<Octets, Fail> {
     match hex::decode(alloc, digits) {
         Ok(bytes) => Ok(Octets::copy(alloc, bytes.as_slice())?),
         Err(_) => Err(Fail::new("no hexadecimal digits")),

@@ -3,7 +3,7 @@
 ghost use Rattle.std.specs.Prelude.{◌≡◌, ◌<◌, true, false, Ok, OnErr, OnOk, IfSome, IfNone, Some};
 ghost use Rattle.waits.specs.Jobs.{Queue, accepted, ready_job, without_ready};
 
-use crate::steps::{Step, put, step_of};
+use crate::steps::{Plays, Step, are_played, nothing, number, pair, put};
 use bytes::Bytes;
 use msg_ids::Moment;
 use octets::{IdList, Memory};
@@ -80,143 +80,158 @@ fn ready_number(jobs: &Jobs, place: usize) -> u64 {
     }
 }
 
-// Of one session and all: what jobs say of a step that changes nothing; false where it is none of these.
-fn is_told(jobs: &Jobs, alloc: Global, step: &Step<'_>) -> Result<bool, Fail> {
+// How many jobs and bytes a session has.
+fn load(jobs: &Jobs, alloc: Global, session: u64) -> Result<String, Fail> {
+    let (count, bytes) = jobs.load(1, session);
+    pair(alloc, count as u64, bytes as u64)
+}
+
+// How many jobs are overdue at a moment, of all and of a session.
+fn overdue(jobs: &Jobs, alloc: Global, seconds: u64, session: u64) -> Result<String, Fail> {
+    let now = Moment::new(seconds);
+    let (all, of_session) = (jobs.overdue(now), jobs.overdue_of(1, session, now));
+    pair(alloc, all as u64, of_session as u64)
+}
+
+// What jobs say of a step that changes nothing: of all, and of a session.
+fn asked(jobs: &Jobs, alloc: Global, step: Step<'_>) -> Result<String, Fail> {
     let [first, second, ..] = step.numbers;
     match step.verb {
-        "ready" => step.gave(alloc, jobs.ready() as u64)?,
-        "len" => step.gave(alloc, jobs.len() as u64)?,
-        "at" => step.gave(alloc, ready_number(jobs, first as usize))?,
-        "load" => {
-            let (count, bytes) = jobs.load(1, first);
-            step.gave_two(alloc, count as u64, bytes as u64)?;
-        }
-        "waiting" => step.gave(alloc, jobs.waiting(1, first) as u64)?,
-        "blocked" => step.gave(alloc, jobs.blocked(1, first) as u64)?,
-        "has" => step.gave(alloc, u64::from(jobs.has(1, first, second)))?,
-        "overdue" => {
-            let now = Moment::new(first);
-            let (all, of_session) = (jobs.overdue(now), jobs.overdue_of(1, second, now));
-            step.gave_two(alloc, all as u64, of_session as u64)?;
-        }
-        _ => return Ok(false),
+        "ready" => number(alloc, jobs.ready() as u64),
+        "len" => number(alloc, jobs.len() as u64),
+        "at" => number(alloc, ready_number(jobs, first as usize)),
+        "load" => load(jobs, alloc, first),
+        "waiting" => number(alloc, jobs.waiting(1, first) as u64),
+        "blocked" => number(alloc, jobs.blocked(1, first) as u64),
+        "has" => number(alloc, u64::from(jobs.has(1, first, second))),
+        "overdue" => overdue(jobs, alloc, first, second),
+        _ => Err(Fail::new("no step")),
     }
-    Ok(true)
 }
 
-// A call of a session behind up to two others, each not 0.
-fn call_after(jobs: &mut Jobs, alloc: Global, numbers: [u64; 4]) -> Result<u64, Fail> {
-    let [session, number, first, second] = numbers;
-    let after = [first, second];
-    let count = if first == 0 {
-        0
+// A call of a session behind up to two others, each not 0: 1 where it is accepted.
+fn call_after(jobs: &mut Jobs, alloc: Global, numbers: [u64; 4]) -> Result<String, Fail> {
+    let [session, name, first, second] = numbers;
+    let accepted = if first == 0 {
+        call(jobs, alloc, session, name, &[])?
     } else if second == 0 {
-        1
+        call(jobs, alloc, session, name, &[first])?
     } else {
-        2
+        call(jobs, alloc, session, name, &[first, second])?
     };
-    Ok(u64::from(call(jobs, alloc, session, number, &after[..count])?))
+    number(alloc, u64::from(accepted))
 }
 
-// Calls of three sessions in so many rounds, from number 8 on: how many are accepted.
-fn calls_of_three(jobs: &mut Jobs, alloc: Global, rounds: u64) -> Result<u64, Fail> {
+// Calls of this number of three sessions: how many are accepted.
+fn calls_of(jobs: &mut Jobs, alloc: Global, name: u64) -> Result<u64, Fail> {
+    let first = u64::from(call(jobs, alloc, 1, name, &[])?);
+    let second = u64::from(call(jobs, alloc, 2, name, &[])?);
+    let third = u64::from(call(jobs, alloc, 3, name, &[])?);
+    Ok(first.wrapping_add(second).wrapping_add(third))
+}
+
+// The same in so many rounds, from number 8 on.
+fn calls_of_three(jobs: &mut Jobs, alloc: Global, rounds: u64) -> Result<String, Fail> {
     let mut accepted = 0u64;
     for round in 0..rounds {
-        let number = round.wrapping_mul(4).wrapping_add(8);
-        for session in 1..=3u64 {
-            if call(jobs, alloc, session, number, &[])? {
-                accepted = accepted.wrapping_add(1);
-            }
-        }
+        let name = round.wrapping_mul(4).wrapping_add(8);
+        accepted = accepted.wrapping_add(calls_of(jobs, alloc, name)?);
     }
-    Ok(accepted)
+    number(alloc, accepted)
 }
 
 // So many jobs are taken out.
-fn takes(jobs: &mut Jobs, count: u64) {
+fn takes(jobs: &mut Jobs, alloc: Global, count: u64) -> Result<String, Fail> {
     for _ in 0..count {
         drop(next(jobs));
     }
+    nothing(alloc)
 }
 
-// A step that changes jobs.
-fn does(jobs: &mut Jobs, alloc: Global, step: &Step<'_>) -> Result<(), Fail> {
-    let [first, second, third, _] = step.numbers;
+fn reserves(jobs: &mut Jobs, alloc: Global, count: u64) -> Result<String, Fail> {
+    jobs.reserve(alloc, count as usize)?;
+    nothing(alloc)
+}
+
+// A call of a session is answered, well or not.
+fn settles(jobs: &mut Jobs, alloc: Global, numbers: [u64; 4]) -> Result<String, Fail> {
+    let [session, name, good, _] = numbers;
+    jobs.settle(1, session, name, good == 1);
+    nothing(alloc)
+}
+
+fn forgets(jobs: &mut Jobs, alloc: Global, session: u64) -> Result<String, Fail> {
+    jobs.forget(1, session);
+    nothing(alloc)
+}
+
+// A step that changes jobs and takes none out.
+fn does(jobs: &mut Jobs, alloc: Global, step: Step<'_>) -> Result<String, Fail> {
+    let numbers = step.numbers;
     match step.verb {
-        "call" => {
-            let accepted = call_after(jobs, alloc, step.numbers)?;
-            step.gave(alloc, accepted)
-        }
-        "calls" => {
-            let accepted = calls_of_three(jobs, alloc, first)?;
-            step.gave(alloc, accepted)
-        }
-        "takes" => {
-            takes(jobs, first);
-            Ok(())
-        }
-        "reserve" => Ok(jobs.reserve(alloc, first as usize)?),
-        "settle" => {
-            jobs.settle(1, first, second, third == 1);
-            Ok(())
-        }
-        "forget" => {
-            jobs.forget(1, first);
-            Ok(())
-        }
-        _ => {
-            let number = taken(jobs, step)?;
-            step.gave(alloc, number)
-        }
+        "call" => call_after(jobs, alloc, numbers),
+        "calls" => calls_of_three(jobs, alloc, numbers[0]),
+        "takes" => takes(jobs, alloc, numbers[0]),
+        "reserve" => reserves(jobs, alloc, numbers[0]),
+        "settle" => settles(jobs, alloc, numbers),
+        "forget" => forgets(jobs, alloc, numbers[0]),
+        _ => asked(jobs, alloc, step),
     }
 }
 
-// The number of the job that a step takes out, 0 where it takes none.
-fn taken(jobs: &mut Jobs, step: &Step<'_>) -> Result<u64, Fail> {
+// The number of the job that a step takes out, 0 where it takes none; whether the step is one that takes.
+fn taken(jobs: &mut Jobs, step: Step<'_>) -> (u64, bool) {
     let [first, second, ..] = step.numbers;
-    let job = match step.verb {
-        "next" => next(jobs),
-        "failed" => jobs.failed(),
-        "expired" => jobs.expired(Moment::new(first)),
-        "cancel" => jobs.cancel(1, first, second),
-        _ => return Err(Fail::new("no step")),
-    };
-    Ok(number_of(job))
-}
-
-// The step of a line. `new` begins anew, `copy` goes on with a copy, and `swap` with what was copied, or with the copy again.
-fn plays(jobs: &mut Jobs, other: &mut Jobs, alloc: Global, line: &str) -> Result<(), Fail> {
-    let step = step_of(line)?;
     match step.verb {
-        "new" => put(jobs, Jobs::new(alloc)),
-        "copy" => {
-            let copy = jobs.copy(alloc)?;
-            put(other, std::mem::replace(jobs, copy));
-        }
-        "swap" => std::mem::swap(jobs, other),
-        _ => {
-            if !is_told(jobs, alloc, &step)? {
-                does(jobs, alloc, &step)?;
-            }
-        }
+        "next" => (number_of(next(jobs)), true),
+        "failed" => (number_of(jobs.failed()), true),
+        "expired" => (number_of(jobs.expired(Moment::new(first))), true),
+        "cancel" => (number_of(jobs.cancel(1, first, second)), true),
+        _ => (0, false),
     }
-    Ok(())
 }
 
-fn play_all(jobs: &mut Jobs, other: &mut Jobs, alloc: Global, table: &str) -> Result<(), Fail> {
-    for line in table.lines() {
-        plays(jobs, other, alloc, line)?;
-    }
-    Ok(())
+// Jobs, and others that they were copied from.
+#[derive(Drop)]
+struct Both {
+    jobs: Jobs,
+    other: Jobs,
 }
 
-// The steps of a table, from no jobs on.
-fn are_done(alloc: Global, table: &str) -> Result<(), Fail> {
-    let (mut jobs, mut other) = (Jobs::new(alloc), Jobs::new(alloc));
-    let done = play_all(&mut jobs, &mut other, alloc, table);
-    drop(jobs);
-    drop(other);
-    done
+impl Both {
+    // Goes on with a copy.
+    fn copies(&mut self, alloc: Global) -> Result<String, Fail> {
+        let copy = self.jobs.copy(alloc)?;
+        put(&mut self.other, std::mem::replace(&mut self.jobs, copy));
+        nothing(alloc)
+    }
+
+    // Goes on with what was copied, or with the copy again.
+    fn swaps(&mut self, alloc: Global) -> Result<String, Fail> {
+        std::mem::swap(&mut self.jobs, &mut self.other);
+        nothing(alloc)
+    }
+}
+
+impl Plays for Both {
+    fn begun(alloc: Global) -> Result<Both, Fail> {
+        Ok(Both {
+            jobs: Jobs::new(alloc),
+            other: Jobs::new(alloc),
+        })
+    }
+
+    fn played(&mut self, alloc: Global, step: Step<'_>) -> Result<String, Fail> {
+        let (name, takes) = taken(&mut self.jobs, step);
+        if takes {
+            return number(alloc, name);
+        }
+        match step.verb {
+            "copy" => self.copies(alloc),
+            "swap" => self.swaps(alloc),
+            _ => does(&mut self.jobs, alloc, step),
+        }
+    }
 }
 
 // 8 and 12, and 16 after both, are run as they get ready. 8 and 12 are answered in this order, and in the other one.
@@ -263,7 +278,7 @@ len = 0\n";
 
 #[test]
 fn a_job_waits_for_each_of_two_others(rt: HostRuntime) -> Result<(), Fail> {
-    are_done(rt.alloc(), AFTER_TWO_OTHERS)
+    are_played::<Both>(rt.alloc(), AFTER_TWO_OTHERS)
 }
 
 const FAILED: &str = "\
@@ -278,7 +293,7 @@ failed = 0\n";
 
 #[test]
 fn a_job_fails_with_one_that_it_waits_for(rt: HostRuntime) -> Result<(), Fail> {
-    are_done(rt.alloc(), FAILED)
+    are_played::<Both>(rt.alloc(), FAILED)
 }
 
 // A job that waits for its own number, since the moment 100.
@@ -298,7 +313,7 @@ expired 131 = 16\n";
 #[test]
 fn a_job_waits_for_thirty_seconds(rt: HostRuntime) -> Result<(), Fail> {
     same(WAIT_SECONDS, 30)?;
-    are_done(rt.alloc(), EXPIRED)
+    are_played::<Both>(rt.alloc(), EXPIRED)
 }
 
 // Of all, and of session 2, where one of each waits.
@@ -310,7 +325,7 @@ overdue 130 2 = 2 1\n";
 
 #[test]
 fn overdue_jobs_are_counted(rt: HostRuntime) -> Result<(), Fail> {
-    are_done(rt.alloc(), OVERDUE)
+    are_played::<Both>(rt.alloc(), OVERDUE)
 }
 
 const OF_TWO_SESSIONS: &str = "\
@@ -334,7 +349,7 @@ len = 2\n";
 
 #[test]
 fn sessions_have_jobs_of_their_own(rt: HostRuntime) -> Result<(), Fail> {
-    are_done(rt.alloc(), OF_TWO_SESSIONS)
+    are_played::<Both>(rt.alloc(), OF_TWO_SESSIONS)
 }
 
 // A session has its own jobs where those of three stand between one another, some are taken out, one session is
@@ -365,5 +380,5 @@ next = 404\n";
 
 #[test]
 fn sessions_keep_theirs_among_others(rt: HostRuntime) -> Result<(), Fail> {
-    are_done(rt.alloc(), OF_THREE_SESSIONS)
+    are_played::<Both>(rt.alloc(), OF_THREE_SESSIONS)
 }

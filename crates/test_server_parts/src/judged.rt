@@ -8,14 +8,13 @@ ghost use Rattle.inbox.specs.Refusals.{InEnvelope};
 ghost use Rattle.inbox.specs.Judging.{Session, session_after};
 ghost use Rattle.inbox.specs.Inbox.{Stands, Remembers, message_in};
 
-use crate::steps::{Step, put, step_of};
+use crate::steps::{Plays, Step, are_played, nothing, number, pair, put, show, tell};
 use inbox::{Inbox, Judged, Judgement, Mark, Outer, Verdict};
 use msg_ids::Moment;
 use octets::{IdList, Memory, Octets};
 use salt_line::SaltLine;
 use std::alloc::Global;
 use std::test::*;
-use test_asserts::{shown, told};
 
 /// The valid salt of the tests.
 const SALT: u64 = 7;
@@ -56,37 +55,18 @@ fn code_of(verdict: &Verdict) -> u32 {
 }
 
 // Judges a message that came in an envelope of this moment.
-fn judged(
-    inbox: &mut Inbox,
-    alloc: Global,
-    seconds: u64,
-    number: u64,
-    seq: u32,
-    salt: u64,
-    body: &[u8],
-) -> Result<Judged, Memory> {
-    let line = SaltLine::new(alloc, Moment::new(0), SALT)?;
-    let outer = Outer {
-        number,
-        seq,
-        salt,
-        body: Octets::copy(alloc, body)?,
+fn judged(inbox: &mut Inbox, alloc: Global, seconds: u64, outer: Outer) -> Result<Judged, Fail> {
+    let line = match SaltLine::new(alloc, Moment::new(0), SALT) {
+        Ok(line) => line,
+        Err(fault) => {
+            drop(outer);
+            return Err(fault.into());
+        }
     };
-    inbox.judge(alloc, Moment::new(seconds), &line, &outer)
-}
-
-// Judges it: what became of it, and how many messages were judged.
-fn judge(
-    inbox: &mut Inbox,
-    alloc: Global,
-    seconds: u64,
-    number: u64,
-    seq: u32,
-    salt: u64,
-    body: &[u8],
-) -> Result<(u32, usize), Memory> {
-    let (code, count, _) = counted(judged(inbox, alloc, seconds, number, seq, salt, body)?);
-    Ok((code, count))
+    let judged = inbox.judge(alloc, Moment::new(seconds), &line, &outer);
+    drop(line);
+    drop(outer);
+    Ok(judged?)
 }
 
 // What became of a message, how many were judged, and how many behind the first are accepted.
@@ -103,23 +83,40 @@ fn counted(judged: Judged) -> (u32, usize, u64) {
 }
 
 // Puts a call of this place, counted from 1, into a container: its number is 4 times that, its seq one less than 2 times.
-fn put_call(body: &mut Octets, alloc: Global, place: u64, length: u32) -> Result<(), Memory> {
-    let seq = place.wrapping_mul(2).wrapping_sub(1) & 0xffff_ffff;
+fn put_call(body: &mut Octets, alloc: Global, place: u64, length: u64) -> Result<(), Memory> {
+    let seq = place.wrapping_mul(2).wrapping_sub(1);
     body.push_all(alloc, &place.wrapping_mul(4).to_le_bytes())?;
-    body.push_all(alloc, &(seq as u32).to_le_bytes())?;
-    body.push_all(alloc, &length.to_le_bytes())?;
+    put_word(body, alloc, seq)?;
+    put_word(body, alloc, length)?;
     body.push_all(alloc, &CALL)
 }
 
-// The body of a container of so many calls; the last one says this length.
-fn container(alloc: Global, count: u64, last_length: u64) -> Result<Octets, Memory> {
-    let mut body = Octets::copy(alloc, &[0xdc, 0xf8, 0xf1, 0x73])?;
-    body.push_all(alloc, &((count & 0xffff_ffff) as u32).to_le_bytes())?;
-    for place in 0..count {
-        let place = place.wrapping_add(1);
+// The lower half of a number.
+fn low(number: u64) -> u32 {
+    (number & 0xffff_ffff) as u32
+}
+
+fn put_word(body: &mut Octets, alloc: Global, word: u64) -> Result<(), Memory> {
+    body.push_all(alloc, &low(word).to_le_bytes())
+}
+
+// Puts so many calls into a container, of which each says this length.
+fn put_calls(body: &mut Octets, alloc: Global, count: u64, last_length: u64) -> Result<(), Memory> {
+    for place in 1..=count {
         let length = if place == count { last_length } else { 4 };
-        put_call(&mut body, alloc, place, (length & 0xffff_ffff) as u32)?;
+        put_call(body, alloc, place, length)?;
     }
+    Ok(())
+}
+
+// The body of a container of so many calls, of which the last one says this length, without its last bytes.
+fn container(alloc: Global, numbers: [u64; 4]) -> Result<Octets, Memory> {
+    let [count, last_length, cut, _] = numbers;
+    let mut body = Octets::copy(alloc, &[0xdc, 0xf8, 0xf1, 0x73])?;
+    put_word(&mut body, alloc, count)?;
+    put_calls(&mut body, alloc, count, last_length)?;
+    let kept = body.as_slice().len().saturating_sub(cut as usize);
+    body.truncate(kept);
     Ok(body)
 }
 
@@ -136,117 +133,118 @@ fn accepted_in(judgements: &[Judgement]) -> u64 {
 }
 
 // Judges a container: the numbers of the step are how many calls are in it, what the last one says of its length, how many
-// bytes of it are cut, and its number. Its seq is twice the count.
-fn judged_container(inbox: &mut Inbox, alloc: Global, numbers: [u64; 4]) -> Result<Judged, Memory> {
-    let [count, last_length, cut, number] = numbers;
-    let mut body = container(alloc, count, last_length)?;
-    let kept = body.as_slice().len().saturating_sub(cut as usize);
-    body.truncate(kept);
-    let seq = (count.wrapping_mul(2) & 0xffff_ffff) as u32;
-    judged(inbox, alloc, 0, number, seq, SALT, body.as_slice())
+// bytes of it are cut, and its number. Its seq is twice the count. What became of it, how many were judged, and how many behind
+// the first are accepted.
+fn judged_container(
+    inbox: &mut Inbox,
+    alloc: Global,
+    numbers: [u64; 4],
+) -> Result<(u32, usize, u64), Fail> {
+    let [count, _, _, number] = numbers;
+    let outer = Outer {
+        number,
+        seq: low(count.wrapping_mul(2)),
+        salt: SALT,
+        body: container(alloc, numbers)?,
+    };
+    Ok(counted(judged(inbox, alloc, 0, outer)?))
 }
 
-// Judges a message: the numbers of the step are the moment and the message's number, seq and salt.
-fn judged_message(
+// The same as a text.
+fn contains(inbox: &mut Inbox, alloc: Global, numbers: [u64; 4]) -> Result<String, Fail> {
+    let (code, count, accepted) = judged_container(inbox, alloc, numbers)?;
+    Ok(format!(in alloc; "{code} {count} {accepted}")?)
+}
+
+// What became of it as a text.
+fn contains_again(inbox: &mut Inbox, alloc: Global, numbers: [u64; 4]) -> Result<String, Fail> {
+    let (code, _, _) = judged_container(inbox, alloc, numbers)?;
+    number(alloc, u64::from(code))
+}
+
+// Judges a message: the numbers of the step are the moment and the message's number, seq and salt. What became of it, and how
+// many were judged.
+fn judges(
     inbox: &mut Inbox,
     alloc: Global,
     numbers: [u64; 4],
     body: &[u8],
-) -> Result<(u32, usize), Memory> {
+) -> Result<String, Fail> {
     let [seconds, number, seq, salt] = numbers;
-    let seq = (seq & 0xffff_ffff) as u32;
-    judge(inbox, alloc, seconds, number, seq, salt, body)
+    let outer = Outer {
+        number,
+        seq: low(seq),
+        salt,
+        body: Octets::copy(alloc, body)?,
+    };
+    let (code, count, _) = counted(judged(inbox, alloc, seconds, outer)?);
+    pair(alloc, u64::from(code), count as u64)
 }
 
 // Judges so many calls in turn, 4 apart, under salt 0.
-fn judge_many(inbox: &mut Inbox, alloc: Global, count: u64) -> Result<(), Memory> {
+fn judges_many(inbox: &mut Inbox, alloc: Global, count: u64) -> Result<String, Fail> {
     for place in 0..count {
         let number = place.wrapping_mul(4).wrapping_add(4);
-        judge(inbox, alloc, 0, number, 1, 0, &CALL)?;
+        drop(judges(inbox, alloc, [0, number, 1, 0], &CALL)?);
     }
-    Ok(())
+    nothing(alloc)
 }
 
 // The states of seven numbers, as a list of numbers shows them.
 fn states(inbox: &Inbox, alloc: Global) -> Result<String, Fail> {
     let ids = IdList::copy(alloc, &[0, 4, 8, 12, 16, 20, 28])?;
     let states = inbox.states(alloc, &ids)?;
-    Ok(shown(alloc, &states.as_slice())?)
+    show(alloc, &states.as_slice())
 }
 
 // What an inbox says of a step that changes nothing.
-fn asked(inbox: &Inbox, alloc: Global, step: &Step<'_>) -> Result<String, Fail> {
-    let [number, ..] = step.numbers;
-    Ok(match step.verb {
-        "heard" => told(alloc, &inbox.heard())?,
-        "floor" => told(alloc, &inbox.floor())?,
-        "mark" => shown(alloc, &inbox.mark(number))?,
-        "states" => states(inbox, alloc)?,
-        _ => return Err(Fail::new("no step")),
-    })
-}
-
-// What became of a step's message and how many were judged.
-fn pair(alloc: Global, judged: (u32, usize)) -> Result<String, Fail> {
-    let (code, count) = judged;
-    Ok(format!(in alloc; "{code} {count}")?)
-}
-
-// A step.
-fn done(inbox: &mut Inbox, alloc: Global, step: &Step<'_>) -> Result<String, Fail> {
-    let numbers = step.numbers;
+fn asked(inbox: &Inbox, alloc: Global, step: Step<'_>) -> Result<String, Fail> {
     match step.verb {
-        "call" => pair(alloc, judged_message(inbox, alloc, numbers, &CALL)?),
-        "ack" => pair(alloc, judged_message(inbox, alloc, numbers, &ACK)?),
-        "empty" => pair(
-            alloc,
-            judged_message(inbox, alloc, numbers, &EMPTY_CONTAINER)?,
-        ),
-        "nested" => pair(
-            alloc,
-            judged_message(inbox, alloc, numbers, &NESTED_CONTAINER)?,
-        ),
-        "container" => {
-            let (code, count, accepted) = counted(judged_container(inbox, alloc, numbers)?);
-            Ok(format!(in alloc; "{code} {count} {accepted}")?)
-        }
-        "again" => {
-            let (code, _, _) = counted(judged_container(inbox, alloc, numbers)?);
-            Ok(told(alloc, &code)?)
-        }
-        "answer" => Ok(told(alloc, &answer(inbox, numbers[0]))?),
-        _ => asked(inbox, alloc, step),
+        "heard" => tell(alloc, &inbox.heard()),
+        "floor" => number(alloc, inbox.floor()),
+        "mark" => show(alloc, &inbox.mark(step.numbers[0])),
+        "states" => states(inbox, alloc),
+        _ => Err(Fail::new("no step")),
     }
 }
 
-// The step of a line. `new` begins anew, and `copy` goes on with a copy.
-fn plays(inbox: &mut Inbox, alloc: Global, line: &str) -> Result<(), Fail> {
-    let step = step_of(line)?;
-    match step.verb {
-        "new" => put(inbox, Inbox::new(alloc)?),
-        "copy" => {
-            let copy = inbox.copy(alloc)?;
-            put(inbox, copy);
+// The body of a message by its name; of no bytes where it is none of these.
+fn body_of(verb: &str) -> &[u8] {
+    match verb {
+        "call" => &CALL,
+        "ack" => &ACK,
+        "empty" => &EMPTY_CONTAINER,
+        "nested" => &NESTED_CONTAINER,
+        _ => &[],
+    }
+}
+
+// Goes on with a copy.
+fn copies(inbox: &mut Inbox, alloc: Global) -> Result<String, Fail> {
+    let copy = inbox.copy(alloc)?;
+    put(inbox, copy);
+    nothing(alloc)
+}
+
+impl Plays for Inbox {
+    fn begun(alloc: Global) -> Result<Inbox, Fail> {
+        Ok(Inbox::new(alloc)?)
+    }
+
+    fn played(&mut self, alloc: Global, step: Step<'_>) -> Result<String, Fail> {
+        let body = body_of(step.verb);
+        if !body.is_empty() {
+            return judges(self, alloc, step.numbers, body);
         }
-        "calls" => judge_many(inbox, alloc, step.numbers[0])?,
-        _ => step.gave_text(done(inbox, alloc, &step)?.as_str())?,
+        match step.verb {
+            "container" => contains(self, alloc, step.numbers),
+            "again" => contains_again(self, alloc, step.numbers),
+            "calls" => judges_many(self, alloc, step.numbers[0]),
+            "copy" => copies(self, alloc),
+            "answer" => tell(alloc, &answer(self, step.numbers[0])),
+            _ => asked(self, alloc, step),
+        }
     }
-    Ok(())
-}
-
-fn play_all(inbox: &mut Inbox, alloc: Global, table: &str) -> Result<(), Fail> {
-    for line in table.lines() {
-        plays(inbox, alloc, line)?;
-    }
-    Ok(())
-}
-
-// The steps of a table, from a new inbox on.
-fn are_done(alloc: Global, table: &str) -> Result<(), Fail> {
-    let mut inbox = Inbox::new(alloc)?;
-    let done = play_all(&mut inbox, alloc, table);
-    drop(inbox);
-    done
 }
 
 // Marks a call as answered, where it waits.
@@ -342,7 +340,7 @@ heard = true\n";
 
 #[test]
 fn messages_are_judged_by_the_first_case(rt: HostRuntime) -> Result<(), Fail> {
-    are_done(rt.alloc(), FIRST_CASE)
+    are_played::<Inbox>(rt.alloc(), FIRST_CASE)
 }
 
 const KEPT_MARK: &str = "\
@@ -359,7 +357,7 @@ heard = true\n";
 
 #[test]
 fn a_call_keeps_its_mark(rt: HostRuntime) -> Result<(), Fail> {
-    are_done(rt.alloc(), KEPT_MARK)
+    are_played::<Inbox>(rt.alloc(), KEPT_MARK)
 }
 
 // Numbers of a step are how many calls a container has, what the last one says of its length, how many bytes are cut, and the
@@ -396,12 +394,12 @@ again 0 4 0 12 = 1002\n";
 
 #[test]
 fn containers_are_judged_with_their_messages(rt: HostRuntime) -> Result<(), Fail> {
-    are_done(rt.alloc(), CONTAINERS)
+    are_played::<Inbox>(rt.alloc(), CONTAINERS)
 }
 
 #[test]
 fn no_container_stands_in_another(rt: HostRuntime) -> Result<(), Fail> {
-    are_done(rt.alloc(), "nested 0 8 2 7 = 64 1\nmark 4 = None\n")
+    are_played::<Inbox>(rt.alloc(), "nested 0 8 2 7 = 64 1\nmark 4 = None\n")
 }
 
 const FULL_WINDOW: &str = "\
@@ -415,7 +413,7 @@ floor = 4\n";
 
 #[test]
 fn the_floor_rises_over_a_full_window(rt: HostRuntime) -> Result<(), Fail> {
-    are_done(rt.alloc(), FULL_WINDOW)
+    are_played::<Inbox>(rt.alloc(), FULL_WINDOW)
 }
 
 // Of 0, 4, 8, 12, 16, 20 and 28.
@@ -431,5 +429,5 @@ states = [1, 4, 4, 100, 4, 2, 3]\n";
 
 #[test]
 fn states_are_told(rt: HostRuntime) -> Result<(), Fail> {
-    are_done(rt.alloc(), STATES)
+    are_played::<Inbox>(rt.alloc(), STATES)
 }

@@ -58,17 +58,33 @@ fn packed(alloc: Global, messages: &[Part<'_>]) -> Result<Messages, Memory>
     packets(alloc, Moment::new(0), &mut numbers, messages)
 }
 
-// The packet that a list has alone, or none: its number, its seq and its body.
-fn sole(packets: &Messages) -> Option<(u64, u32, &[u8])> {
+// The packet that a list has alone: its number, its seq and its body in hexadecimal digits; or nothing.
+fn sole(alloc: Global, packets: &Messages) -> Result<String, Fail> {
     match packets.as_slice() {
-        [packet] => Some((packet.number, packet.seq, packet.body.as_slice())),
-        _ => None,
+        [] => Ok(String::from_str(alloc, "nothing")?),
+        [packet] => row(alloc, packet.number, packet.seq, packet.body.as_slice()),
+        _ => Err(Fail::new("more than one packet")),
     }
 }
 
+fn row(alloc: Global, number: u64, seq: u32, body: &[u8]) -> Result<String, Fail> {
+    let body = hex::encode(alloc, body)?;
+    Ok(format!(in alloc; "{number} {seq} {body}")?)
+}
+
+// Messages go as this packet.
+fn go_as(alloc: Global, messages: &[Part<'_>], wanted: &str) -> Result<(), Fail> {
+    let packets = packed(alloc, messages)?;
+    let sole = sole(alloc, &packets);
+    drop(packets);
+    same(sole?.as_str(), wanted)
+}
+
+const BOTH: &str =
+    "7 0 dcf8f1730200000005000000000000000100000004000000616263640900000000000000030000000400000065666768";
+
 #[test]
 fn one_goes_alone_and_two_in_a_container(rt: HostRuntime) -> Result<(), Fail> {
-    let alloc = rt.alloc();
     let one = Part {
         number: 5,
         seq: 1,
@@ -79,15 +95,9 @@ fn one_goes_alone_and_two_in_a_container(rt: HostRuntime) -> Result<(), Fail> {
         seq: 3,
         body: b"efgh",
     };
-    let none = packed(alloc, &[])?;
-    holds(none.as_slice().is_empty())?;
-    let alone = packed(alloc, &[one])?;
-    same(sole(&alone), Some((5, 1, b"abcd".as_slice())))?;
-    let both = packed(alloc, &[one, two])?;
-    let body =
-        b"\xdc\xf8\xf1\x73\x02\0\0\0\x05\0\0\0\0\0\0\0\x01\0\0\0\x04\0\0\0abcd\x09\0\0\0\0\0\0\0\x03\0\0\0\x04\0\0\0efgh";
-    same(sole(&both), Some((7, 0, body.as_slice())))?;
-    Ok(())
+    go_as(rt.alloc(), &[], "nothing")?;
+    go_as(rt.alloc(), &[one], "5 1 61626364")?;
+    go_as(rt.alloc(), &[one, two], BOTH)
 }
 
 // So many parts that are the same.
@@ -107,23 +117,37 @@ fn front_from(parts: &[Part<'_>], place: usize) -> Option<usize> {
     }
 }
 
-#[test]
-fn fifteen_great_results_go_by_threes(rt: HostRuntime) -> Result<(), Fail> {
-    let body = zeros(rt.alloc(), 262_156)?;
+// Of fifteen results of this body: how many go first from the places 0, 3 and 12 on, and the size of the first packet.
+fn fifteen(alloc: Global, body: &[u8]) -> Result<[Option<usize>; 4], Fail> {
     if u32::try_from(body.len()).is_err() {
         return Err(Fail::new("too long"));
     }
     let result = Part {
         number: 5,
         seq: 1,
-        body: body.as_slice(),
+        body,
     };
-    let great = repeated(rt.alloc(), result, 15)?;
-    same(front_from(great.as_slice(), 0), Some(3))?;
-    same(front_from(great.as_slice(), 3), Some(3))?;
-    same(front_from(great.as_slice(), 12), Some(3))?;
-    same(first_size(great.as_slice()), Some(786_524))?;
-    Ok(())
+    let great = repeated(alloc, result, 15)?;
+    let fronts = fronts(great.as_slice());
+    drop(great);
+    Ok(fronts)
+}
+
+fn fronts(parts: &[Part<'_>]) -> [Option<usize>; 4] {
+    [
+        front_from(parts, 0),
+        front_from(parts, 3),
+        front_from(parts, 12),
+        first_size(parts),
+    ]
+}
+
+#[test]
+fn fifteen_great_results_go_by_threes(rt: HostRuntime) -> Result<(), Fail> {
+    let body = zeros(rt.alloc(), 262_156)?;
+    let fronts = fifteen(rt.alloc(), body.as_slice());
+    drop(body);
+    same(fronts?, [Some(3), Some(3), Some(3), Some(786_524)])
 }
 
 // The size of the packet of the parts that go first.
@@ -143,7 +167,10 @@ fn small_messages_go_by_1020(rt: HostRuntime) -> Result<(), Fail> {
         body: b"",
     };
     let many = repeated(rt.alloc(), small, 1_021)?;
-    same(front_from(many.as_slice(), 0), Some(1_020))?;
-    same(front_from(many.as_slice(), 1_020), Some(1))?;
-    Ok(())
+    let (first, second) = (
+        front_from(many.as_slice(), 0),
+        front_from(many.as_slice(), 1_020),
+    );
+    drop(many);
+    same((first, second), (Some(1_020), Some(1)))
 }

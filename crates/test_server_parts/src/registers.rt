@@ -70,34 +70,69 @@ const RUNS: &str = " 19ca4421900100000b4241445f52455155455354\n\
 022c1b0a216162636465666768696a6b6c6d6e6f707172737475767778797a303132333435360000 19ca4421900100000b4241445f52455155455354\n\
 022c1b0a01580000 19ca4421900100000b4241445f52455155455354\n";
 
-// A reply is foreseen, and comes.
+// The reply to a request that is foreseen, and that comes, in hexadecimal digits.
+fn foreseen(alloc: Global, regs: &Regs, request: &[u8]) -> Result<String, Fail> {
+    let reply = regs.foresee(alloc, request)?;
+    let digits = hex::encode(alloc, reply.as_slice());
+    drop(reply);
+    Ok(digits?)
+}
+
+fn reply(alloc: Global, regs: &mut Regs, request: &[u8]) -> Result<String, Fail> {
+    let reply = regs.run(alloc, request)?;
+    let digits = hex::encode(alloc, reply.as_slice());
+    drop(reply);
+    Ok(digits?)
+}
+
+// The reply to a request is foreseen so, and comes.
+fn replies(
+    alloc: Global,
+    regs: &mut Regs,
+    row: &str,
+    request: &[u8],
+    want: &str,
+) -> Result<(), Fail> {
+    same_at(row, foreseen(alloc, regs, request)?.as_str(), want)?;
+    same_at(row, reply(alloc, regs, request)?.as_str(), want)
+}
+
 fn is_run(alloc: Global, regs: &mut Regs, row: &str) -> Result<(), Fail> {
     let (request, want) = row.split_once(' ').ok_or("a request and a reply")?;
-    let request = hex::decode(alloc, request).ok().ok_or("digits")?;
-    let foreseen = regs.foresee(alloc, request.as_slice())?;
-    same_at(row, hex::encode(alloc, foreseen.as_slice())?.as_str(), want)?;
-    let reply = regs.run(alloc, request.as_slice())?;
-    same_at(row, hex::encode(alloc, reply.as_slice())?.as_str(), want)
+    match hex::decode(alloc, request) {
+        Ok(request) => replies(alloc, regs, row, request.as_slice(), want),
+        Err(_) => Err(Fail::new("digits")),
+    }
+}
+
+fn are_run(alloc: Global, regs: &mut Regs) -> Result<(), Fail> {
+    for row in RUNS.lines() {
+        is_run(alloc, regs, row)?;
+    }
+    one_more_on_copy(alloc, regs)
 }
 
 #[test]
 fn sums_and_refusals(rt: HostRuntime) -> Result<(), Fail> {
-    let alloc = rt.alloc();
-    let mut regs = Regs::fresh(alloc);
-    same(RUNS.lines().count(), 14)?;
-    for row in RUNS.lines() {
-        is_run(alloc, &mut regs, row)?;
-    }
-    same(one_more_on_copy(alloc, &regs)?.as_slice(), VALUE_5)?;
-    holds(is_register_name(b"x"))?;
-    holds(fails_and_goes_on::<Regs>(alloc, ADD_X_5, GET_X).is_err())?;
-    Ok(())
+    let mut regs = Regs::fresh(rt.alloc());
+    let done = are_run(rt.alloc(), &mut regs);
+    drop(regs);
+    done?;
+    same(RUNS.lines().count(), 14)
 }
 
-// The reply of a copy to `get x`.
-fn one_more_on_copy(alloc: Global, regs: &Regs) -> Result<Octets, Fail> {
+#[test]
+fn names_of_registers(rt: HostRuntime) -> Result<(), Fail> {
+    holds(is_register_name(b"x"))?;
+    holds(fails_and_goes_on::<Regs>(rt.alloc(), ADD_X_5, GET_X).is_err())
+}
+
+// A copy replies to `get x`.
+fn one_more_on_copy(alloc: Global, regs: &Regs) -> Result<(), Fail> {
     let mut copy = regs.copy(alloc)?;
-    Ok(one_more(alloc, &mut copy, GET_X)?)
+    let reply = one_more(alloc, &mut copy, GET_X);
+    drop(copy);
+    same(reply?.as_slice(), VALUE_5)
 }
 
 // The request that adds 5 to the register of four letters that this number stands for.
@@ -111,30 +146,31 @@ fn request_of(number: u32) -> [u8; 20] {
     request
 }
 
-// The registers of 65,536 names of four letters each, whose sums are 5.
-fn of_all_names(alloc: Global) -> Result<Regs, Fail> {
-    let mut regs = Regs::fresh(alloc);
-    for k in 0..65_536_u32 {
-        let reply = regs.run(alloc, &request_of(k))?;
-        same(reply.as_slice(), VALUE_5)?;
-    }
-    Ok(regs)
-}
-
 // A reply of the registers.
 fn is_reply(alloc: Global, regs: &mut Regs, request: &[u8], want: &[u8]) -> Result<(), Fail> {
-    same(regs.run(alloc, request)?.as_slice(), want)
+    let reply = regs.run(alloc, request)?;
+    let done = same(reply.as_slice(), want);
+    drop(reply);
+    done
 }
 
-// Behind them comes another name, and then an add to the first one.
+// 65,536 names of four letters each, whose sums are 5. Behind them comes another name, and then an add to the first one.
+fn have_an_end(alloc: Global, regs: &mut Regs) -> Result<(), Fail> {
+    for k in 0..65_536_u32 {
+        is_reply(alloc, regs, &request_of(k), VALUE_5)?;
+    }
+    is_reply(alloc, regs, ADD_X_5, TOO_MANY)?;
+    same(regs.names(), 65_536)?;
+    is_reply(alloc, regs, ADD_X_ALL, TOO_MANY)?;
+    is_reply(alloc, regs, GET_X, VALUE_0)?;
+    let none = b"\x01\x2c\x1b\x0a\x04aaaa\0\0\0\0\0\0\0\0\0\0\0";
+    is_reply(alloc, regs, none, VALUE_5)
+}
+
 #[test]
 fn names_have_an_end(rt: HostRuntime) -> Result<(), Fail> {
-    let alloc = rt.alloc();
-    let mut regs = of_all_names(alloc)?;
-    is_reply(alloc, &mut regs, ADD_X_5, TOO_MANY)?;
-    same(regs.names(), 65_536)?;
-    is_reply(alloc, &mut regs, ADD_X_ALL, TOO_MANY)?;
-    is_reply(alloc, &mut regs, GET_X, VALUE_0)?;
-    let none = b"\x01\x2c\x1b\x0a\x04aaaa\0\0\0\0\0\0\0\0\0\0\0";
-    is_reply(alloc, &mut regs, none, VALUE_5)
+    let mut regs = Regs::fresh(rt.alloc());
+    let done = have_an_end(rt.alloc(), &mut regs);
+    drop(regs);
+    done
 }

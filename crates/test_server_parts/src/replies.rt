@@ -4,12 +4,12 @@
 ghost use Rattle.std.specs.Prelude.{◌≡◌, ◌≤◌, true, false, Ok, length, OnErr};
 ghost use Rattle.outbox.specs.Replies.{kept_bytes_max, with_kept, with_room_for};
 
-use crate::steps::{Step, step_of, zeros};
+use crate::steps::{Plays, Step, are_played, number, show, zeros};
 use octets::Memory;
 use outbox::{Body, Bytes, KEPT_BYTES_MAX, KEPT_REPLIES_MAX, Kept, Outbox};
 use std::alloc::Global;
 use std::test::Fail;
-use test_asserts::{same, shown, told};
+use test_asserts::{same, told};
 
 // Keeps a reply where it fits, and says whether it did; else the oldest one is dropped.
 fn keep_or_drop(outbox: &mut Outbox, alloc: Global, kept: Kept) -> Result<bool, Memory>
@@ -70,44 +70,70 @@ fn great_body(alloc: Global) -> Result<Body, Fail> {
     Ok(Body::shared([0; 12], bytes))
 }
 
+// The reply to the call of a place: which reply was dropped for it, and whether it wasn't kept.
+fn keeps(
+    outbox: &mut Outbox,
+    alloc: Global,
+    place: u64,
+    body: &Body,
+    text: &mut String,
+) -> Result<(), Fail> {
+    let (dropped, kept) = kept_or_dropped(outbox, alloc, place, body)?;
+    if let Some(call) = dropped {
+        text.push_str(format!(in alloc; "{call} for {place}, ")?.as_str())?;
+    }
+    if !kept {
+        text.push_str(format!(in alloc; "not {place}, ")?.as_str())?;
+    }
+    Ok(())
+}
+
+fn keeps_all(
+    outbox: &mut Outbox,
+    alloc: Global,
+    count: u64,
+    body: &Body,
+    text: &mut String,
+) -> Result<(), Fail> {
+    for k in 0..count {
+        keeps(outbox, alloc, k.wrapping_add(1), body, text)?;
+    }
+    Ok(())
+}
+
 // The replies to so many calls: which were dropped for which, and how many are kept.
 fn kept_all(outbox: &mut Outbox, alloc: Global, count: u64) -> Result<String, Fail> {
-    let body = great_body(alloc)?;
     let mut text = String::new(alloc);
-    for k in 0..count {
-        let place = k.wrapping_add(1);
-        let (dropped, kept) = kept_or_dropped(outbox, alloc, place, &body)?;
-        if let Some(call) = dropped {
-            text.push_str(format!(in alloc; "{call} for {place}, ")?.as_str())?;
-        }
-        if !kept {
-            text.push_str(format!(in alloc; "not {place}, ")?.as_str())?;
-        }
-    }
+    let body = great_body(alloc)?;
+    let done = keeps_all(outbox, alloc, count, &body, &mut text);
+    drop(body);
+    done?;
     text.push_str(told(alloc, &outbox.len())?.as_str())?;
     Ok(text)
 }
 
-// A step.
-fn done(outbox: &mut Outbox, alloc: Global, step: &Step<'_>) -> Result<String, Fail> {
-    let [first, second, ..] = step.numbers;
-    match step.verb {
-        "keep" => kept_all(outbox, alloc, first),
-        "bytes" => Ok(told(alloc, &outbox.bytes())?),
-        "copied" => Ok(shown(alloc, &number_in_copy(outbox, alloc, first, second)?)?),
-        "ack" => Ok(shown(alloc, &outbox.ack(first))?),
-        _ => Ok(shown(alloc, &found(outbox, step.verb, first)?)?),
-    }
+fn copied(outbox: &Outbox, alloc: Global, call: u64, other: u64) -> Result<String, Fail> {
+    show(alloc, &number_in_copy(outbox, alloc, call, other)?)
 }
 
-// The call of the reply at a place or of a number, or the number of the reply to a call.
-fn found(outbox: &Outbox, verb: &str, first: u64) -> Result<Option<u64>, Fail> {
-    Ok(match verb {
-        "at" => outbox.at(first as usize).map(|kept| kept.call),
-        "call" => outbox.by_call(first).map(|kept| kept.number),
-        "number" => outbox.by_number(first).map(|kept| kept.call),
-        _ => return Err(Fail::new("no step")),
-    })
+impl Plays for Outbox {
+    fn begun(alloc: Global) -> Result<Outbox, Fail> {
+        Ok(Outbox::new(alloc)?)
+    }
+
+    fn played(&mut self, alloc: Global, step: Step<'_>) -> Result<String, Fail> {
+        let [first, second, ..] = step.numbers;
+        match step.verb {
+            "keep" => kept_all(self, alloc, first),
+            "bytes" => number(alloc, self.bytes() as u64),
+            "copied" => copied(self, alloc, first, second),
+            "ack" => show(alloc, &self.ack(first)),
+            "at" => show(alloc, &self.at(first as usize).map(|kept| kept.call)),
+            "call" => show(alloc, &self.by_call(first).map(|kept| kept.number)),
+            "number" => show(alloc, &self.by_number(first).map(|kept| kept.call)),
+            _ => Err(Fail::new("no step")),
+        }
+    }
 }
 
 const SEVENTEEN: &str = "\
@@ -128,16 +154,5 @@ copied 68 13 = Some(69)\n";
 #[test]
 fn seventeen_replies(rt: HostRuntime) -> Result<(), Fail> {
     same((KEPT_REPLIES_MAX, KEPT_BYTES_MAX), (4_096, 4_194_304))?;
-    let mut outbox = Outbox::new(rt.alloc())?;
-    let done = play_all(&mut outbox, rt.alloc(), SEVENTEEN);
-    drop(outbox);
-    done
-}
-
-fn play_all(outbox: &mut Outbox, alloc: Global, table: &str) -> Result<(), Fail> {
-    for line in table.lines() {
-        let step = step_of(line)?;
-        step.gave_text(done(outbox, alloc, &step)?.as_str())?;
-    }
-    Ok(())
+    are_played::<Outbox>(rt.alloc(), SEVENTEEN)
 }

@@ -2,7 +2,7 @@
 
 ghost use Rattle.std.specs.Prelude.{◌≡◌, ◌≤◌, ◌<◌, IfOk, IsTrue};
 
-use crate::steps::{Step, step_of};
+use crate::steps::{Step, gives, number, step_of};
 use draws::{Draw, StepDraw};
 use msg_ids::Moment;
 use octets::Memory;
@@ -18,6 +18,29 @@ const NO_ROW: SaltRow = SaltRow {
     salt: 0,
 };
 
+// Whether a line judges a salt as valid, as 1 or 0.
+fn judges(line: &SaltLine, alloc: Global, now: Moment, step: Step<'_>) -> Result<(), Fail>
+    requires { line.now.latest ≤ now }
+{
+    let judged = line.judge(now, step.numbers[1]);
+    gives(step, number(alloc, u64::from(judged))?.as_str())
+}
+
+// The current salt of a line.
+fn current(
+    line: &mut SaltLine,
+    draw: &mut StepDraw,
+    alloc: Global,
+    now: Moment,
+    step: Step<'_>,
+) -> Result<(), Fail>
+    requires { line.old.latest ≤ now }
+    ensures { line.new.latest ≡ now }
+{
+    let current = line.current(now, draw);
+    gives(step, number(alloc, current)?.as_str())
+}
+
 // How many rows a line tells at a moment where as many as the second number says are asked for, and those of them from the place of
 // the third number up to that of the fourth.
 fn future(
@@ -25,26 +48,31 @@ fn future(
     draw: &mut StepDraw,
     alloc: Global,
     now: Moment,
-    step: &Step<'_>,
+    step: Step<'_>,
 ) -> Result<(), Fail>
     requires { line.old.latest ≤ now }
     ensures { line.new.latest ≡ now }
 {
-    let [_, count, from, to] = step.numbers;
     let mut rows = [NO_ROW; 64];
-    let count = line.future(now, count as usize, draw, &mut rows);
-    let rows = rows.get(from as usize..to as usize).ok_or("no such rows")?;
-    step.gave_text(told(alloc, count, rows)?.as_str())
+    let count = line.future(now, step.numbers[1] as usize, draw, &mut rows);
+    gives(step, told(alloc, count, &rows, step)?.as_str())
 }
 
-// How many rows there are, and these of them: from when and until when each is valid, and its salt.
-fn told(alloc: Global, count: usize, rows: &[SaltRow]) -> Result<String, AllocError> {
+// How many rows there are, and those of them that a step asks for.
+fn told(alloc: Global, count: usize, rows: &[SaltRow], step: Step<'_>) -> Result<String, Fail> {
+    let [_, _, from, to] = step.numbers;
+    let rows = rows.get(from as usize..to as usize).ok_or("no such rows")?;
     let mut text = format!(in alloc; "{count}")?;
     for row in rows {
-        let (since, until, salt) = (row.since, row.until, row.salt);
-        text.push_str(format!(in alloc; ", {since} {until} {salt}")?.as_str())?;
+        text.push_str(row_told(alloc, row)?.as_str())?;
     }
     Ok(text)
+}
+
+// From when and until when a row is valid, and its salt.
+fn row_told(alloc: Global, row: &SaltRow) -> Result<String, AllocError> {
+    let (since, until, salt) = (row.since, row.until, row.salt);
+    format!(in alloc; ", {since} {until} {salt}")
 }
 
 // A step of a line that was given no moment behind this one; the latest that it was given then.
@@ -53,41 +81,46 @@ fn done(
     draw: &mut StepDraw,
     alloc: Global,
     latest: u64,
-    step: &Step<'_>,
+    step: Step<'_>,
 ) -> Result<u64, Fail>
     requires { line.old.latest ≤ latest }
     ensures { IfOk result (λ latest. line.new.latest ≤ latest) }
 {
-    let [seconds, salt, ..] = step.numbers;
-    let now = Moment::new(seconds);
+    let now = Moment::new(step.numbers[0]);
     if now.seconds() < latest {
         return Err(Fail::new("too early"));
     }
     if step.verb == "judge" {
-        step.gave(alloc, u64::from(line.judge(now, salt)))?;
+        judges(line, alloc, now, step)?;
         return Ok(latest);
     }
-    if step.verb == "current" {
-        step.gave(alloc, line.current(now, draw))?;
-        return Ok(now.seconds());
+    match step.verb {
+        "current" => current(line, draw, alloc, now, step)?,
+        "future" => future(line, draw, alloc, now, step)?,
+        _ => return Err(Fail::new("no step")),
     }
-    if step.verb == "future" {
-        future(line, draw, alloc, now, step)?;
-        return Ok(now.seconds());
-    }
-    Err(Fail::new("no step"))
+    Ok(now.seconds())
 }
 
-// The steps of a table, of a line of salt 7 that begins at this moment.
-fn are_done(alloc: Global, start: u64, table: &str) -> Result<(), Fail> {
+// The steps of a table, of a line that was given no moment behind this one.
+fn plays_all(line: &mut SaltLine, alloc: Global, start: u64, table: &str) -> Result<(), Fail>
+    requires { line.old.latest ≤ start }
+{
     let mut draw = StepDraw::new();
-    let start = Moment::new(start);
-    let mut line = SaltLine::new(alloc, start, 7)?;
-    let mut latest = start.seconds();
+    let mut latest = start;
     for row in table.lines() {
-        latest = done(&mut line, &mut draw, alloc, latest, &step_of(row)?)?;
+        latest = done(line, &mut draw, alloc, latest, step_of(row)?)?;
     }
     Ok(())
+}
+
+// The same, of a line of salt 7 that begins at this moment.
+fn are_done(alloc: Global, start: u64, table: &str) -> Result<(), Fail> {
+    let start = Moment::new(start);
+    let mut line = SaltLine::new(alloc, start, 7)?;
+    let done = plays_all(&mut line, alloc, start.seconds(), table);
+    drop(line);
+    done
 }
 
 const FIRST: &str = "\

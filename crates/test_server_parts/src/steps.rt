@@ -1,11 +1,13 @@
-//! Steps of a table, one a line: a word, numbers behind it, and what it gives behind ` = `.
+//! Steps of a table, one a line: a word, numbers behind it, and what it gives behind ` = `. What plays them is owned in one place,
+//! and a step is a function that gives a text, empty where nothing is told.
 
 use std::alloc::{AllocError, Global};
+use std::fmt::{Debug, Display};
 use std::test::Fail;
-use test_asserts::same_at;
+use test_asserts::{same_at, shown, told};
 
 /// A step: its word, its first four numbers, 0 where there are fewer, and what it is to give.
-#[derive(Drop)]
+#[derive(Clone, Copy)]
 pub(crate) struct Step<'a> {
     pub(crate) line: &'a str,
     pub(crate) verb: &'a str,
@@ -13,36 +15,62 @@ pub(crate) struct Step<'a> {
     pub(crate) gives: &'a str,
 }
 
-/// A number; behind the seconds of a message identifier stands an `s`, and then the rest of it.
-fn number_of(word: &str) -> Result<u64, Fail> {
-    match word.split_once('s') {
-        Some((seconds, rest)) => {
-            let seconds = seconds.parse::<u64>()?.wrapping_mul(4_294_967_296);
-            Ok(seconds.wrapping_add(rest.parse::<u64>()?))
-        }
-        None => Ok(word.parse::<u64>()?),
+/// What plays steps, one after the other.
+pub(crate) trait Plays: Sized {
+    /// It has played none so far.
+    fn begun(alloc: Global) -> Result<Self, Fail>;
+
+    /// Plays a step: what it gives.
+    fn played(&mut self, alloc: Global, step: Step<'_>) -> Result<String, Fail>;
+}
+
+fn decimal(word: &str) -> Result<u64, Fail> {
+    match word.parse::<u64>() {
+        Ok(number) => Ok(number),
+        Err(_) => Err(Fail::new("no number")),
     }
+}
+
+// A number; behind the seconds of a message identifier stands an `s`, and then the rest of it.
+fn number_of(word: &str) -> Result<u64, Fail> {
+    let Some((seconds, rest)) = word.split_once('s') else {
+        return decimal(word);
+    };
+    let seconds = decimal(seconds)?.wrapping_mul(4_294_967_296);
+    Ok(seconds.wrapping_add(decimal(rest)?))
+}
+
+// The first of these numbers, 0 where there is none, and the words behind it.
+fn next(words: &str) -> Result<(u64, &str), Fail> {
+    if words.is_empty() {
+        return Ok((0, words));
+    }
+    match words.split_once(' ') {
+        Some((word, left)) => Ok((number_of(word)?, left)),
+        None => Ok((number_of(words)?, "")),
+    }
+}
+
+// Four numbers, 0 where there are fewer.
+fn numbers_of(words: &str) -> Result<[u64; 4], Fail> {
+    let (first, words) = next(words)?;
+    let (second, words) = next(words)?;
+    let (third, words) = next(words)?;
+    let (fourth, words) = next(words)?;
+    if !words.is_empty() {
+        return Err(Fail::new("more than four numbers"));
+    }
+    Ok([first, second, third, fourth])
 }
 
 /// The step of a line.
 pub(crate) fn step_of(line: &str) -> Result<Step<'_>, Fail> {
-    let (asked, gives) = match line.split_once(" = ") {
-        Some(parts) => parts,
-        None => (line, ""),
-    };
-    if asked.split(' ').count() > 5 {
-        return Err(Fail::new("more than four numbers"));
-    }
-    let mut words = asked.split(' ');
-    let verb = words.next().unwrap_or("");
-    let mut numbers = [0; 4];
-    for (number, word) in numbers.iter_mut().zip(words) {
-        *number = number_of(word)?;
-    }
+    let (asked, gives) = line.split_once(" = ").unwrap_or((line, ""));
+    let (verb, words) = asked.split_once(' ').unwrap_or((asked, ""));
     Ok(Step {
         line,
         verb,
-        numbers,
+        numbers: numbers_of(words)?,
         gives,
     })
 }
@@ -57,24 +85,57 @@ pub(crate) fn put<T: Drop>(place: &mut T, value: T) {
     drop(std::mem::replace(place, value));
 }
 
-impl Step<'_> {
-    /// It gave this number.
-    pub(crate) fn gave(&self, alloc: Global, number: u64) -> Result<(), Fail> {
-        same_at(
-            self.line,
-            format!(in alloc; "{number}")?.as_str(),
-            self.gives,
-        )
+// Plays the step of a line; `new` begins anew.
+fn play<T: Plays + Drop>(played: &mut T, alloc: Global, line: &str) -> Result<(), Fail> {
+    let step = step_of(line)?;
+    if step.verb == "new" {
+        put(played, T::begun(alloc)?);
+        return Ok(());
     }
+    gives(step, played.played(alloc, step)?.as_str())
+}
 
-    /// It gave these two.
-    pub(crate) fn gave_two(&self, alloc: Global, first: u64, second: u64) -> Result<(), Fail> {
-        let told = format!(in alloc; "{first} {second}")?;
-        same_at(self.line, told.as_str(), self.gives)
-    }
+/// A step gives what it is to give.
+pub(crate) fn gives(step: Step<'_>, told: &str) -> Result<(), Fail> {
+    same_at(step.line, told, step.gives)
+}
 
-    /// It gave what is shown so.
-    pub(crate) fn gave_text(&self, told: &str) -> Result<(), Fail> {
-        same_at(self.line, told, self.gives)
+fn play_all<T: Plays + Drop>(played: &mut T, alloc: Global, table: &str) -> Result<(), Fail> {
+    for line in table.lines() {
+        play(played, alloc, line)?;
     }
+    Ok(())
+}
+
+/// Each step of a table, from the beginning on, gives what it is to give.
+pub(crate) fn are_played<T: Plays + Drop>(alloc: Global, table: &str) -> Result<(), Fail> {
+    let mut played = T::begun(alloc)?;
+    let done = play_all(&mut played, alloc, table);
+    drop(played);
+    done
+}
+
+/// What tells nothing.
+pub(crate) fn nothing(alloc: Global) -> Result<String, Fail> {
+    Ok(String::new(alloc))
+}
+
+/// A value as `{}` tells it.
+pub(crate) fn tell<T: Display>(alloc: Global, value: &T) -> Result<String, Fail> {
+    Ok(told(alloc, value)?)
+}
+
+/// A value as `{:?}` shows it.
+pub(crate) fn show<T: Debug>(alloc: Global, value: &T) -> Result<String, Fail> {
+    Ok(shown(alloc, value)?)
+}
+
+/// A number as a step gives it.
+pub(crate) fn number(alloc: Global, number: u64) -> Result<String, Fail> {
+    Ok(format!(in alloc; "{number}")?)
+}
+
+/// Two numbers as a step gives them.
+pub(crate) fn pair(alloc: Global, first: u64, second: u64) -> Result<String, Fail> {
+    Ok(format!(in alloc; "{first} {second}")?)
 }

@@ -6,12 +6,12 @@ ghost use Rattle.id_window.specs.Marks.{Marks, given};
 ghost use Rattle.id_window.specs.History.{History, AcceptedCall, noted, found};
 ghost use Rattle.id_window.specs.Window.{Stands};
 
-use crate::steps::{Step, step_of};
+use crate::steps::{Plays, Step, are_played, show, tell};
 use id_window::{Cross, Mark, WINDOW_NUMBERS, Window};
 use octets::Memory;
 use std::alloc::Global;
 use std::test::Fail;
-use test_asserts::{same, shown, told};
+use test_asserts::same;
 
 // Notes a call where it is new and crosses nothing, and says whether it did.
 fn accept_call(window: &mut Window, alloc: Global, number: u64, seq: u32) -> Result<bool, Memory>
@@ -84,19 +84,6 @@ fn mark_of(number: u64) -> Mark {
     }
 }
 
-// What a window says of a step that changes nothing.
-fn asked(window: &Window, alloc: Global, step: &Step<'_>) -> Result<String, Fail> {
-    let [number, seq, ..] = step.numbers;
-    let seq = (seq & 0xffff_ffff) as u32;
-    Ok(match step.verb {
-        "find" => shown(alloc, &window.find(number))?,
-        "copied" => shown(alloc, &find_in_copy(window, alloc, number)?)?,
-        "crosses" => shown(alloc, &window.crosses(number, seq))?,
-        "edges" => edges(window, alloc)?,
-        _ => return Err(Fail::new("no step")),
-    })
-}
-
 // Its floor and its greatest number, and those of a copy.
 fn edges(window: &Window, alloc: Global) -> Result<String, Fail> {
     let copy = window.copy(alloc)?;
@@ -110,44 +97,56 @@ fn noted(window: &mut Window, alloc: Global, count: u64) -> Result<u64, Fail> {
     let mut forgotten = 0u64;
     for k in 0..count {
         let number = k.wrapping_mul(4).wrapping_add(4);
-        let seq = (k.wrapping_mul(2).wrapping_add(2) & 0xffff_ffff) as u32;
-        if note_new(window, alloc, number, seq, Mark::Service)?.is_some() {
+        let seq = k.wrapping_mul(2).wrapping_add(2);
+        if note_new(window, alloc, number, low(seq), Mark::Service)?.is_some() {
             forgotten = forgotten.wrapping_add(1);
         }
     }
     Ok(forgotten)
 }
 
-// A step.
-fn done(window: &mut Window, alloc: Global, step: &Step<'_>) -> Result<String, Fail> {
-    let [number, seq, mark, _] = step.numbers;
-    let seq = (seq & 0xffff_ffff) as u32;
-    Ok(match step.verb {
-        "note" => {
-            let forgotten = note_new(window, alloc, number, seq, mark_of(mark))?;
-            shown(alloc, &forgotten)?
-        }
-        "notes" => told(alloc, &noted(window, alloc, number)?)?,
-        "accept" => told(alloc, &accept_call(window, alloc, number, seq)?)?,
-        "answer" => shown(alloc, &accept_and_answer(window, alloc, number, seq))?,
-        _ => asked(window, alloc, step)?,
-    })
+// The lower half of a number.
+fn low(number: u64) -> u32 {
+    (number & 0xffff_ffff) as u32
 }
 
-fn play_all(window: &mut Window, alloc: Global, table: &str) -> Result<(), Fail> {
-    for line in table.lines() {
-        let step = step_of(line)?;
-        step.gave_text(done(window, alloc, &step)?.as_str())?;
+fn notes(window: &mut Window, alloc: Global, numbers: [u64; 4]) -> Result<String, Fail> {
+    let [number, seq, mark, _] = numbers;
+    let forgotten = note_new(window, alloc, number, low(seq), mark_of(mark))?;
+    show(alloc, &forgotten)
+}
+
+fn notes_many(window: &mut Window, alloc: Global, count: u64) -> Result<String, Fail> {
+    tell(alloc, &noted(window, alloc, count)?)
+}
+
+fn accepts(window: &mut Window, alloc: Global, number: u64, seq: u64) -> Result<String, Fail> {
+    tell(alloc, &accept_call(window, alloc, number, low(seq))?)
+}
+
+fn finds_in_copy(window: &Window, alloc: Global, number: u64) -> Result<String, Fail> {
+    show(alloc, &find_in_copy(window, alloc, number)?)
+}
+
+impl Plays for Window {
+    fn begun(alloc: Global) -> Result<Window, Fail> {
+        Ok(Window::new(alloc)?)
     }
-    Ok(())
-}
 
-// The steps of a table, from a fresh window on.
-fn are_done(alloc: Global, table: &str) -> Result<(), Fail> {
-    let mut window = Window::new(alloc)?;
-    let done = play_all(&mut window, alloc, table);
-    drop(window);
-    done
+    fn played(&mut self, alloc: Global, step: Step<'_>) -> Result<String, Fail> {
+        let [number, seq, ..] = step.numbers;
+        match step.verb {
+            "note" => notes(self, alloc, step.numbers),
+            "notes" => notes_many(self, alloc, number),
+            "accept" => accepts(self, alloc, number, seq),
+            "answer" => show(alloc, &accept_and_answer(self, alloc, number, low(seq))),
+            "find" => show(alloc, &self.find(number)),
+            "copied" => finds_in_copy(self, alloc, number),
+            "crosses" => show(alloc, &self.crosses(number, low(seq))),
+            "edges" => edges(self, alloc),
+            _ => Err(Fail::new("no step")),
+        }
+    }
 }
 
 // A number below a full window comes straight back.
@@ -164,7 +163,7 @@ edges = 6 65540, 6 65540\n";
 
 #[test]
 fn a_full_window_forgets_its_least_number(rt: HostRuntime) -> Result<(), Fail> {
-    are_done(rt.alloc(), FULL)
+    are_played::<Window>(rt.alloc(), FULL)
 }
 
 // A noticed number crosses nothing, and even seqs may be shared.
@@ -184,7 +183,7 @@ crosses 24 3 = Low\n";
 
 #[test]
 fn crossing_rows(rt: HostRuntime) -> Result<(), Fail> {
-    are_done(rt.alloc(), CROSSING)
+    are_played::<Window>(rt.alloc(), CROSSING)
 }
 
 const CHANGED: &str = "\
@@ -196,5 +195,5 @@ accept 8 3 = false\n";
 #[test]
 fn marks_change(rt: HostRuntime) -> Result<(), Fail> {
     same(WINDOW_NUMBERS, 16_384)?;
-    are_done(rt.alloc(), CHANGED)
+    are_played::<Window>(rt.alloc(), CHANGED)
 }

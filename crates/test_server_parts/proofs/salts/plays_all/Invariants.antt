@@ -1,5 +1,5 @@
 use Rattle.std.proofs.Common.{◌≤◌}
-use Rattle.test_server_parts.proofs.salts.are_done.Given as goal
+use Rattle.test_server_parts.proofs.salts.plays_all.Given as goal
 
 -- the line was given no moment behind the latest
 abbrev pub invariant-loop-row : goal.invariant-loop-row
