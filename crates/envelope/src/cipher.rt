@@ -8,7 +8,7 @@ use crate::parts::Dir;
 use aes_core::Key256;
 use auth_keys::AuthKey;
 use cipher_modes::{ige_decrypt, ige_encrypt, laws as of_modes};
-use msg_key::{DOWN, UP, aes_of, laws as of_keys, msg_key};
+use msg_key::{DOWN, UP, key_and_iv_of, laws as of_keys, msg_key};
 use octets::laws as of_bytes;
 
 /// The three functions in which seals differ. Texts are whole blocks.
@@ -62,12 +62,12 @@ impl Cipher for MtCipher {
     }
 
     fn lock(key: &AuthKey, dir: Dir, message_key: &[u8; 16], text: &mut [u8]) {
-        let (cipher_key, iv) = aes_of(key, x_of(dir), message_key);
+        let (cipher_key, iv) = key_and_iv_of(key, x_of(dir), message_key);
         ige_encrypt(&Key256::new(&cipher_key), &iv, text);
     }
 
     fn unlock(key: &AuthKey, dir: Dir, message_key: &[u8; 16], text: &mut [u8]) {
-        let (cipher_key, iv) = aes_of(key, x_of(dir), message_key);
+        let (cipher_key, iv) = key_and_iv_of(key, x_of(dir), message_key);
         ige_decrypt(&Key256::new(&cipher_key), &iv, text);
     }
 

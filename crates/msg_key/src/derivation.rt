@@ -5,6 +5,7 @@ ghost use Rattle.std.specs.Prelude.{◌≡◌, ◌++◌};
 ghost use Rattle.auth_keys.specs.Keys.{substr};
 ghost use Rattle.msg_key.specs.Keys.{IsX, message_key, aes_key, aes_iv};
 
+use aes_core::Key256;
 use auth_keys::AuthKey;
 use sha2::{Digest, Sha256};
 
@@ -27,11 +28,21 @@ pub fn msg_key(key: &AuthKey, x: usize, plain: &[u8]) -> [u8; 16]
     msg_key
 }
 
-/// The 32 bytes of the key of AES-256, and the initialisation vector of infinite garble extension, for the text of a
-/// packet with this message key (core.telegram.org/mtproto/description, "Defining AES Key and Initialization Vector").
-/// `x` is [`UP`] or [`DOWN`].
+/// The key of AES-256 and the initialisation vector of infinite garble extension for the text of a packet with this
+/// message key (core.telegram.org/mtproto/description, "Defining AES Key and Initialization Vector"). `x` is [`UP`] or
+/// [`DOWN`].
+pub fn aes_of(key: &AuthKey, x: usize, msg_key: &[u8; 16]) -> (Key256, [u8; 32])
+    requires { IsX x }
+    ensures key { result.0 ≡ aes_key key.now x msg_key.now }
+    ensures iv { result.1 ≡ aes_iv key.now x msg_key.now }
+{
+    let (cipher_key, iv) = key_and_iv_of(key, x, msg_key);
+    (Key256::new(&cipher_key), iv)
+}
+
+/// The same, with the key as its 32 bytes: round keys are long, and made where they are used they aren't copied.
 #[tactic(auto, unfolding(crate::specs::Keys::aes_key, crate::specs::Keys::aes_iv))]
-pub fn aes_of(key: &AuthKey, x: usize, msg_key: &[u8; 16]) -> ([u8; 32], [u8; 32])
+pub fn key_and_iv_of(key: &AuthKey, x: usize, msg_key: &[u8; 16]) -> ([u8; 32], [u8; 32])
     requires { IsX x }
     ensures key { result.0 ≡ aes_key key.now x msg_key.now }
     ensures iv { result.1 ≡ aes_iv key.now x msg_key.now }

@@ -6,4 +6,4 @@
 mod derivation;
 pub mod laws;
 
-pub use crate::derivation::{DOWN, UP, aes_of, msg_key};
+pub use crate::derivation::{DOWN, UP, aes_of, key_and_iv_of, msg_key};

@@ -5,7 +5,6 @@ ghost use Rattle.auth_keys.specs.Rings.{entry_of};
 ghost use Rattle.mtp_bench.specs.Sizes.{IsBodySize};
 
 use crate::text::text_of;
-use aes_core::Key256;
 use auth_keys::{AuthKey, Ring};
 use cipher_modes::{ige_decrypt, ige_encrypt};
 use draws::StepDraw;
@@ -120,7 +119,7 @@ fn enciphering(text: &mut [u8], times: u64)
     for _ in 0..times {
         let message_key = msg_key(&key, UP, text);
         let (cipher_key, iv) = aes_of(&key, UP, &message_key);
-        ige_encrypt(&Key256::new(&cipher_key), &iv, text);
+        ige_encrypt(&cipher_key, &iv, text);
     }
 }
 
@@ -141,7 +140,7 @@ fn deciphering(text: &mut [u8], times: u64)
     let mut message_key = [0; 16];
     for _ in 0..times {
         let (cipher_key, iv) = aes_of(&key, UP, &message_key);
-        ige_decrypt(&Key256::new(&cipher_key), &iv, text);
+        ige_decrypt(&cipher_key, &iv, text);
         message_key = msg_key(&key, UP, text);
     }
 }

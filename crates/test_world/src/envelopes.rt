@@ -4,7 +4,6 @@ ghost use Rattle.std.specs.Prelude.{◌≡◌, ◌≤◌, ◌%◌, IfOk, IfSome,
 ghost use Rattle.auth_keys.specs.Rings.{entry_of};
 ghost use Rattle.envelope.specs.Packet.{body_max};
 
-use aes_core::Key256;
 use auth_keys::AuthKey;
 use cipher_modes::ige_encrypt;
 use draws::{Draw, StepDraw};
@@ -70,7 +69,7 @@ fn packet(alloc: Global, key: &AuthKey, behind: usize, said: u32) -> Result<Octe
     let text = &mut room[..32 + behind];
     let message_key = msg_key(key, UP, text);
     let (cipher_key, iv) = aes_of(key, UP, &message_key);
-    ige_encrypt(&Key256::new(&cipher_key), &iv, text);
+    ige_encrypt(&cipher_key, &iv, text);
     let mut packet = Buffer::new(alloc, 1096)?;
     packet.push_all(&key.id().to_le_bytes());
     packet.push_all(&message_key);
