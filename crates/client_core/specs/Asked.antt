@@ -23,6 +23,10 @@ HasRoom room =
     ((room.message.bytes ≡ []) × (104 ≤ room.message.room)) × ((room.plain.bytes ≡ []) × (80 ≤ room.plain.room))
     × ((room.body.bytes ≡ []) × (bind_body_bytes ≤ room.body.room))
 
+-- no room, as where no binding is asked for
+abbrev pub HasNoRoom : BindRoom → Type 0
+HasNoRoom room = (room.message.room ≡ 0) × ((room.plain.room ≡ 0) × (room.body.room ≡ 0))
+
 -- what a temporary key needs whose binding is needed
 abbrev pub needed_of : Option Temporary → Option Needed
 needed_of None = None

@@ -1,6 +1,6 @@
 //! A binding is asked for.
 
-ghost use Rattle.std.specs.Prelude.{◌≡◌, ◌≤◌, ◌<◌, ◌+◌, ◌++◌, ◌∷◌, [], ℕ, List, IfOk, IfSome, IsSome, IsTrue, if◌then◌else◌, length};
+ghost use Rattle.std.specs.Prelude.{◌≡◌, ◌≤◌, ◌<◌, ◌+◌, ◌++◌, ◌∷◌, [], ℕ, List, IfOk, IfSome, IsSome, IsFalse, IsTrue, if◌then◌else◌, length};
 ghost use Rattle.auth_keys.specs.Rings.{entry_of};
 ghost use Rattle.draws.specs.Draws.{draw_after, next_bytes, word_after};
 ghost use Rattle.service_tl.specs.Items.{spelling_of};
@@ -8,7 +8,7 @@ ghost use Rattle.service_tl.specs.declared.item.Item.TheVariants.{AuthBindTempAu
 ghost use Rattle.temp_keys.specs.Messages.{binding_message, message_bytes};
 ghost use Rattle.client_rules.specs.Client.{Client};
 ghost use Rattle.client_core.specs.declared.rebinding.Needed.{Needed};
-ghost use Rattle.client_core.specs.Asked.{HasRoom, asked_message, bind_body_bytes};
+ghost use Rattle.client_core.specs.Asked.{HasNoRoom, HasRoom, asked_message, bind_body_bytes};
 
 use auth_keys::AuthKey;
 use draws::Draw;
@@ -37,12 +37,13 @@ pub(crate) struct BindRoom {
 impl BindRoom {
     /// Takes that room where a binding is to be asked for, and else none.
     pub(crate) fn new(alloc: Global, is_needed: bool) -> Result<BindRoom, Memory>
-        ensures { IfOk result (λ room. IsTrue is_needed → HasRoom room) }
+        ensures enough { IfOk result (λ room. IsTrue is_needed → HasRoom room) }
+        ensures none { IfOk result (λ room. IsFalse is_needed → HasNoRoom room) }
     {
         Ok(BindRoom {
-            message: Buffer::new(alloc, bytes_if(is_needed, MESSAGE_BYTES))?,
-            plain: Buffer::new(alloc, bytes_if(is_needed, PLAIN_BYTES))?,
-            body: Buffer::new(alloc, bytes_if(is_needed, BODY_BYTES))?,
+            message: Buffer::new(alloc, if_needed(is_needed, MESSAGE_BYTES))?,
+            plain: Buffer::new(alloc, if_needed(is_needed, PLAIN_BYTES))?,
+            body: Buffer::new(alloc, if_needed(is_needed, BODY_BYTES))?,
         })
     }
 
@@ -76,11 +77,11 @@ impl BindRoom {
     }
 }
 
-/// So many bytes where they are needed, and else none.
-pub(crate) fn bytes_if(is_needed: bool, bytes: usize) -> usize
-    ensures { result ≡ (if is_needed then bytes else 0) }
+/// So many where they are needed, and else none.
+pub(crate) fn if_needed(is_needed: bool, count: usize) -> usize
+    ensures { result ≡ (if is_needed then count else 0) }
 {
-    if is_needed { bytes } else { 0 }
+    if is_needed { count } else { 0 }
 }
 
 /// The body of a binding call has 132 bytes, whatever is drawn. Does nothing.

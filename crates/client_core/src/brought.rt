@@ -129,7 +129,7 @@ fn unknown(alloc: Global, count: usize) -> Result<Octets, Memory>
     Ok(Octets::from(info))
 }
 
-/// What an item brings that asks for something. The item is let go elsewhere, in one place.
+/// What an item brings that asks for something. The item is lent: it is let go in `wish_told` alone.
 fn wish(alloc: Global, item: &Item) -> Result<Brought, Memory>
     requires { IsOfSchema item.now → ItemFits item.now }
     ensures brought { IfOk result (λ brought. brought ≡ wish_of item.now) }
@@ -147,7 +147,7 @@ fn wish(alloc: Global, item: &Item) -> Result<Brought, Memory>
     }
 }
 
-/// The same of an item that is let go.
+/// The same of an item that is given, which is let go here.
 fn wish_told(alloc: Global, item: Item) -> Result<Brought, Memory>
     requires { IsOfSchema item → ItemFits item }
     ensures brought { IfOk result (λ brought. brought ≡ wish_of item) }

@@ -11,7 +11,7 @@ ghost use Rattle.msg_ids.specs.Counters.{room as numbers_left};
 ghost use Rattle.client_rules.specs.Client.{Client, at_moment, calls_of};
 ghost use Rattle.client_rules.specs.Filling.{fills, numbers_max};
 ghost use Rattle.client_rules.specs.Flush.{binding_alone, first_marked, has_any, room_min, sends};
-ghost use Rattle.client_core.specs.Asked.{HasRoom};
+ghost use Rattle.client_core.specs.Asked.{HasNoRoom, HasRoom};
 ghost use Rattle.client_core.specs.Draft.{HasRoomFor, nothing_yet};
 ghost use Rattle.client_core.specs.Due.{is_due_beside};
 ghost use Rattle.client_core.specs.Flushed.{Flushes, Sent, setting_of};
@@ -60,13 +60,15 @@ pub(crate) struct PacketRoom {
 }
 
 impl Core {
-    /// Takes room for a packet of what waits: for what may go, worked out first, and no more.
+    /// Takes room for a packet of what waits: for the bytes that may go, worked out first, and no more; and for at least as many
+    /// numbers.
     fn packet_room(&self, alloc: Global) -> Result<PacketRoom, Memory>
         ensures no_acks { IfOk result (λ room. (room.acks.items ≡ []) × (vec_len room.acks ≡ 0)) }
         ensures acks { IfOk result (λ room. length self.now.calls.acks ≤ vec_capacity room.acks) }
         ensures no_states { IfOk result (λ room. (room.states.items ≡ []) × (vec_len room.states ≡ 0)) }
         ensures states { IfOk result (λ room. asked_count self.now.rest.waiting.states self.now.calls.rows ≤ vec_capacity room.states) }
         ensures binding { IfOk result (λ room. needs_binding self.now.rest ≡ true → HasRoom room.binding) }
+        ensures no_binding { IfOk result (λ room. needs_binding self.now.rest ≡ false → HasNoRoom room.binding) }
         ensures draft { IfOk result (λ room. room.draft ≡ record nothing_yet { room = min (owed_bytes self.now) (bytes_max - container_head); numbers = room.draft.numbers }) }
         ensures numbers { IfOk result (λ room. owed_numbers self.now ≤ room.draft.numbers) }
         ensures packet { IfOk result (λ room. room.packet ≡ record { bytes = []; room = sealed_size (container_head + min (owed_bytes self.now) (bytes_max - container_head)) }) }

@@ -18,7 +18,7 @@ use crate::open::OpenClient;
 use call_table::CallNo;
 use draws::Draw;
 
-/// What an open client is asked to do, which takes nothing and is refused to no open client.
+/// What an open client may be asked to do. It takes no memory, and no open client refuses it.
 #[derive(Clone, Copy, Debug)]
 pub enum Wish {
     /// To ask how its calls fared.
@@ -32,6 +32,7 @@ pub enum Wish {
 fn grant(client: &mut OpenClient, wish: Wish)
     ensures stands { (whole : Client) → Stands client.old whole → Stands client.new (wished wish whole) }
     ensures keys { keys_in client.new ≡ keys_in client.old }
+    ensures session { client.new.rest.session ≡ client.old.rest.session }
     ensures count { length client.new.calls.rows ≡ length client.old.calls.rows }
 {
     match wish {
@@ -58,8 +59,10 @@ impl Holder {
         ensures stands { (client : Client) → Stands (kept_of self.old) client → Stands (kept_of self.new) (wished wish client) }
         ensures phase { phase_of self.new ≡ phase_of self.old }
         ensures keys { keys_in (kept_of self.new) ≡ keys_in (kept_of self.old) }
+        ensures session { (kept_of self.new).rest.session ≡ (kept_of self.old).rest.session }
         ensures count { length (kept_of self.new).calls.rows ≡ length (kept_of self.old).calls.rows }
     {
+        // For its clause: the client is held in its state.
         let _state = self.is_open();
         match self {
             Holder::Open(client) => grant(client, wish),
@@ -78,9 +81,11 @@ impl Holder {
         ensures stands { (client : Client) → Stands (kept_of self.old) client → Stands (kept_of self.new) (dropped call client) }
         ensures phase { phase_of self.new ≡ phase_of self.old }
         ensures keys { keys_in (kept_of self.new) ≡ keys_in (kept_of self.old) }
+        ensures session { (kept_of self.new).rest.session ≡ (kept_of self.old).rest.session }
         ensures count { length (kept_of self.new).calls.rows ≡ length (kept_of self.old).calls.rows }
         ensures unchanged { OnErr result (self.new ≡ self.old) }
     {
+        // For its clause: the client is held in its state.
         let _state = self.is_open();
         match self {
             Holder::Open(client) => client.drop_answer(call),
@@ -97,6 +102,7 @@ impl Holder {
         ensures keys { keys_in (kept_of result) ≡ keys_in (kept_of self) }
         ensures count { length (kept_of result).calls.rows ≡ length (kept_of self).calls.rows }
     {
+        // For its clause: the client is held in its state, so neither of the other two is met.
         let _state = self.is_open();
         match self {
             Holder::Open(client) => Holder::Opening(client.renew(draw)),
@@ -113,6 +119,7 @@ impl Holder {
         ensures keys { keys_in (kept_of result) ≡ keys_in (kept_of self) }
         ensures count { length (kept_of result).calls.rows ≡ length (kept_of self).calls.rows }
     {
+        // For its clause, as of a renewal.
         let _state = self.is_open();
         match self {
             Holder::Open(client) => Holder::Ended(client.end()),

@@ -7,7 +7,7 @@ ghost use Rattle.call_table.specs.Table.{IsGiven};
 ghost use Rattle.client_core.specs.Kept.{temporary_in};
 ghost use Rattle.client_core.specs.Owed.{asked_count, bytes_at, calls_most, drops_bytes, follows_at, front_bytes, front_of, has_unbound, holds_back, more_behind, needs_binding, owed_bytes, owed_numbers, told_bytes, waiting_bytes};
 
-use crate::asking::{BODY_BYTES, bytes_if};
+use crate::asking::{BODY_BYTES, if_needed};
 use crate::binding::{Binding, Temporary};
 use crate::calling::wrap_size;
 use crate::core_client::Core;
@@ -154,7 +154,7 @@ impl Core {
     pub(crate) fn owed_numbers(&self) -> usize
         ensures { result ≡ owed_numbers self.now }
     {
-        bytes_if(self.needs_binding(), 1) + self.calls_most()
+        if_needed(self.needs_binding(), 1) + self.calls_most()
     }
 
     /// For how many bytes of messages a packet of what waits needs room.
@@ -162,7 +162,7 @@ impl Core {
         ensures { result ≡ min (owed_bytes self.now) (bytes_max - container_head) }
     {
         container_sizes();
-        let binding = bytes_if(self.needs_binding(), MESSAGE_HEAD_BYTES + BODY_BYTES);
+        let binding = if_needed(self.needs_binding(), MESSAGE_HEAD_BYTES + BODY_BYTES);
         let bytes = self.waiting_bytes() + binding + self.drops_bytes();
         (bytes + self.queued_bytes()).min(BYTES_MAX)
     }

@@ -1,7 +1,7 @@
 //! A client in one of its states, and what events make of it.
 
-ghost use Rattle.std.specs.Prelude.{◌≡◌, IfOk};
-ghost use Rattle.client_core.specs.Holding.{kept_of};
+ghost use Rattle.std.specs.Prelude.{◌≡◌, true, IfOk};
+ghost use Rattle.client_core.specs.Holding.{is_open_now, kept_of};
 ghost use Rattle.client_core.specs.Keys.{HasKeys, keys_in};
 
 use crate::parts::{Names, Parts, packet};
@@ -9,6 +9,7 @@ use crate::serving::{Sent, Served};
 use crate::telling::{Text, tell_sent};
 use client_core::{
     BindState, CallNo, CallState, Flush, Holder, OpenClient, OpenStep, OpeningClient, OpeningStep,
+    Wish,
 };
 use draws::StepDraw;
 use envelope::{Dir, Seal};
@@ -73,16 +74,17 @@ fn submits_so(holder: &mut Holder, line: &mut Line<'_>) -> Result<(), Fail>
 }
 
 // An open client is asked for something: whether the line told that.
-fn is_asked(client: &mut OpenClient, line: &mut Line<'_>) -> Result<bool, Fail>
-    ensures keys { keys_in client.new ≡ keys_in client.old }
+fn is_asked(holder: &mut Holder, line: &mut Line<'_>) -> Result<bool, Fail>
+    requires open { is_open_now (kept_of holder.old).rest ≡ true }
+    ensures keys { keys_in (kept_of holder.new) ≡ keys_in (kept_of holder.old) }
 {
     match line.verb {
-        "tick" => client.tick(),
-        "ping" => client.ping(line.number()?),
-        "salts" => client.ask_salts(line.small()?),
+        "tick" => holder.ask(Wish::Tick),
+        "ping" => holder.ask(Wish::Ping(line.number()?)),
+        "salts" => holder.ask(Wish::Salts(line.small()?)),
         "drop" => {
             let call = CallNo { n: line.number()? };
-            if client.drop_answer(call).is_err() {
+            if holder.drop_answer(call).is_err() {
                 return Err(Fail::new("it isn't sent"));
             }
         }
@@ -103,10 +105,10 @@ pub(crate) fn is_wished(holder: &mut Holder, line: &mut Line<'_>) -> Result<bool
         holder.attach();
         return Ok(true);
     }
-    match holder {
-        Holder::Open(client) => is_asked(client, line),
-        Holder::Opening(_) | Holder::Ended(_) => Ok(false),
+    if !holder.is_open() {
+        return Ok(false);
     }
+    is_asked(holder, line)
 }
 
 /// A client sends what is due at a moment, which is told, and is what was sent last: whether the line told that.
@@ -239,14 +241,14 @@ fn new_session(unique: u64) -> [u8; 28] {
 pub(crate) fn leaves(holder: Holder, ends: bool, draw: &mut StepDraw) -> Result<Holder, Fail>
     ensures keys { IfOk result (λ left. keys_in (kept_of left) ≡ keys_in (kept_of holder)) }
 {
-    match holder {
-        Holder::Open(client) if ends => Ok(Holder::Ended(client.end())),
-        Holder::Open(client) => Ok(Holder::Opening(client.renew(draw))),
-        other => {
-            drop(other);
-            Err(Fail::new("it isn't open"))
-        }
+    if !holder.is_open() {
+        drop(holder);
+        return Err(Fail::new("it isn't open"));
     }
+    if ends {
+        return Ok(holder.end());
+    }
+    Ok(holder.renew(draw))
 }
 
 // The message of a line: alone, or a container of the messages that are put together.
