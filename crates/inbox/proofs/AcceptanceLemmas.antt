@@ -9,7 +9,7 @@ use Rattle.id_window.specs.Marks.{mark_of}
 use Rattle.id_window.specs.History.{is_kept, floor}
 use Rattle.inbox.specs.declared.kind.Kind.{Kind}
 use Rattle.inbox.specs.declared.kind.Kind.TheVariants.{Container, Unlawful, Acknowledgement, Call, Other}
-use Rattle.inbox.specs.declared.judged.Verdict.TheVariants.{Accepted}
+use Rattle.inbox.specs.Verdicts.{Accepted}
 use Rattle.inbox.specs.Kinds.{kind_of, item_told}
 use Rattle.inbox.specs.Refusals.{InEnvelope, second_of, is_valid_salt, needs_even, needs_odd, by_number, by_neighbours, by_body, refusal}
 use Rattle.inbox.specs.Judging.{Session, verdict_by, judge}

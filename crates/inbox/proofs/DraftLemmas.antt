@@ -2,28 +2,64 @@
 use Rattle.std.proofs.Common.{◌≡◌, ℕ, suc, Bool, true, false, cond, ◌||◌, List, [], ◌∷◌, length, map, Option, Some, None, refl, ◌∙◌, ap}
 use Rattle.std.proofs.lemmas.List.Folds.{list_any-append}
 use Rattle.service_tl.specs.declared.lists.Message.{Message}
-use Rattle.id_window.specs.History.{History, FirstJudgement, Outcome, Refused, was_accepted, noted}
+use Rattle.service_tl.specs.declared.item.Item.{Item}
+use Rattle.id_window.specs.declared.mark.Mark.{Mark}
+use Rattle.id_window.specs.History.{History, FirstJudgement, Outcome, Refused, found, was_accepted, noted}
 use Rattle.inbox.specs.declared.draft.Draft.{Draft}
-use Rattle.inbox.specs.declared.judged.Verdict.{Verdict}
-use Rattle.inbox.specs.declared.judged.Verdict.TheVariants.{Accepted, Again, Noticed}
-use Rattle.inbox.specs.declared.judged.Judgement.{Judgement}
+use Rattle.inbox.specs.declared.judged.Verdict.{Verdict as BareVerdict}
+use Rattle.inbox.specs.declared.judged.Verdict.TheVariants as without
+use Rattle.inbox.specs.declared.judged.Judgement.{Judgement as BareJudgement}
+use Rattle.inbox.specs.Verdicts.{Verdict, Accepted, Again, Noticed, Judgement, bare, bare_judgement, is_bare_accepted}
 use Rattle.inbox.specs.declared.kind.Kind.{Kind}
 use Rattle.inbox.specs.declared.kind.Kind.TheVariants.{Container, Unlawful, Acknowledgement, Call, Other}
-use Rattle.inbox.specs.Kinds.{inner_messages}
-use Rattle.inbox.specs.Judging.{Session, is_accepted, is_recorded, recorded, remembered, outcome_of, judged_session, inner_judgements, inner_session, unfolded}
-use Rattle.inbox.specs.Refusals.{InContainer}
+use Rattle.inbox.specs.Kinds.{inner_messages, item_told, kind_of}
+use Rattle.inbox.specs.Judging.{Session, judge, judgement_on, verdict_by, is_accepted, is_recorded, recorded, remembered, outcome_of, judged_session, inner_judgements, inner_session, unfolded}
+use Rattle.inbox.specs.Refusals.{Way, InContainer, by_envelope, refusal}
 use Rattle.inbox.specs.Inbox.{was_heard}
-use Rattle.inbox.specs.Drafts.{draft_of, draft_judgement, draft_session, draft_judgements, drafts_session, draft_verdict}
+use Rattle.inbox.specs.Drafts.{bare_by, bare_recorded, draft_of, draft_judgement, draft_session, draft_judgements, drafts_session, draft_verdict}
 
-pub inner_judged : (session : Session) (messages : List Message) → draft_judgements session (map draft_of messages) ≡ inner_judgements session messages
+-- ---- a verdict without its item is found alike, and so is what is recorded of it
+
+pub bare_so : (mark : Option Mark) (code : Option ℕ) (kind : Kind) (item : Item) → bare_by mark code kind ≡ bare (verdict_by mark code kind item)
+bare_so (Some mark) code kind item = refl
+bare_so None (Some code) kind item = refl
+bare_so None None kind item = refl
+
+pub recorded_so : (kind : Kind) (verdict : Verdict) → bare_recorded kind (bare verdict) ≡ recorded kind verdict
+recorded_so kind (Accepted item) = refl
+recorded_so kind (Again mark) = refl
+recorded_so kind (Noticed code) = refl
+
+pub accepted_so : (verdict : Verdict) → is_bare_accepted (bare verdict) ≡ is_accepted verdict
+accepted_so (Accepted item) = refl
+accepted_so (Again mark) = refl
+accepted_so (Noticed code) = refl
+
+module _ (way : Way) (session : Session) (message : Message) where
+  draft_bare : draft_verdict (by_envelope way message.number) session (draft_of message) ≡ bare (judge way session message)
+  draft_bare = bare_so (found message.number session.history session.marks) (refusal way session.history message) (kind_of message) (item_told message.body)
+
+  pub draft_judged : draft_judgement (by_envelope way message.number) session (draft_of message) ≡ bare_judgement (judgement_on way session message)
+  draft_judged = ap (λ (v : BareVerdict). record { number = message.number; seq = message.seq; verdict = v }) draft_bare
+
+  pub draft_settled : draft_session (by_envelope way message.number) session (draft_of message) ≡ judged_session way session message
+  draft_settled =
+      ap (λ (o : Option Outcome). remembered message.number message.seq o session)
+      (ap (bare_recorded (kind_of message)) draft_bare ∙ recorded_so (kind_of message) (judge way session message))
+
+pub inner_judged : (session : Session) (messages : List Message) → draft_judgements session (map draft_of messages) ≡ map bare_judgement (inner_judgements session messages)
 inner_judged session [] = refl
 inner_judged session (message ∷ messages) =
-    ap (λ (rest : List Judgement). draft_judgement None session (draft_of message) ∷ rest)
-    (inner_judged (draft_session None session (draft_of message)) messages)
+    ap (λ (j : BareJudgement). j ∷ draft_judgements (draft_session None session (draft_of message)) (map draft_of messages)) (draft_judged InContainer session message)
+    ∙ ap (λ (s : Session). bare_judgement (judgement_on InContainer session message) ∷ draft_judgements s (map draft_of messages)) (draft_settled InContainer session message)
+    ∙ ap (λ (rest : List BareJudgement). bare_judgement (judgement_on InContainer session message) ∷ rest)
+    (inner_judged (judged_session InContainer session message) messages)
 
 pub inner_settled : (session : Session) (messages : List Message) → drafts_session session (map draft_of messages) ≡ inner_session session messages
 inner_settled session [] = refl
-inner_settled session (message ∷ messages) = inner_settled (draft_session None session (draft_of message)) messages
+inner_settled session (message ∷ messages) =
+    ap (λ (s : Session). drafts_session s (map draft_of messages)) (draft_settled InContainer session message)
+    ∙ inner_settled (judged_session InContainer session message) messages
 
 pub inner_lengths : (session : Session) (messages : List Message) → length (inner_judgements session messages) ≡ length messages
 inner_lengths session [] = refl
@@ -75,7 +111,7 @@ heard_stays number seq (Some outcome) session heard = stays number seq outcome s
 pub heard_inside : (session : Session) (drafts : List Draft) → was_heard session.history ≡ true → was_heard (drafts_session session drafts).history ≡ true
 heard_inside session [] heard = heard
 heard_inside session (draft ∷ drafts) heard =
-    heard_inside (draft_session None session draft) drafts (heard_stays draft.number draft.seq (recorded draft.kind (draft_verdict None session draft)) session heard)
+    heard_inside (draft_session None session draft) drafts (heard_stays draft.number draft.seq (bare_recorded draft.kind (draft_verdict None session draft)) session heard)
 
 noticed : (number seq code : ℕ) (is : Bool) (session : Session) → was_heard (remembered number seq (cond is (Some (Refused code)) None) session).history ≡ was_heard session.history
 noticed number seq code true session = heard-noted number seq (Refused code) session.history ∙ or_false (was_heard session.history)

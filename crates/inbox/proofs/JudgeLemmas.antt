@@ -10,16 +10,15 @@ use Rattle.id_window.specs.History.{History}
 use Rattle.id_window.specs.Marks.{Marks}
 use Rattle.id_window.specs.Window.{Contents, Stands as WindowStands}
 use Rattle.inbox.specs.declared.draft.Draft.{Draft}
-use Rattle.inbox.specs.declared.judged.Verdict.{Verdict}
-use Rattle.inbox.specs.declared.judged.Verdict.TheVariants.{Accepted, Again, Noticed}
-use Rattle.inbox.specs.declared.judged.Judgement.{Judgement}
+use Rattle.inbox.specs.declared.judged.Judgement.{Judgement as BareJudgement}
+use Rattle.inbox.specs.Verdicts.{Verdict, Accepted, Again, Noticed, Judgement, bare, bare_judgement, is_bare_accepted}
 use Rattle.inbox.specs.Kinds.{kind_of, inner_messages, item_told}
 use Rattle.inbox.specs.Refusals.{Way, InEnvelope, by_envelope}
 use Rattle.inbox.specs.Judging.{Session, judge, verdict_by, is_container, is_uncontained, is_accepted, judged_session, judgement_on, inner_judgements, inner_session, judgements, session_after}
 use Rattle.inbox.specs.Inbox.{Stands, was_heard, without_room}
 use Rattle.inbox.specs.Drafts.{draft_of, draft_judgement, draft_session, draft_judgements, drafts_session}
-use Rattle.inbox.specs.Acceptance.{IsAcceptable}
-use Rattle.inbox.proofs.DraftLemmas.{inner_judged, inner_settled, accepted_unfolded, others_unfolded, heard_refused, heard_accepted, heard_inside}
+use Rattle.inbox.specs.Acceptance.{IsAcceptable, acceptance_of}
+use Rattle.inbox.proofs.DraftLemmas.{accepted_so, draft_judged, draft_settled, inner_judged, inner_settled, accepted_unfolded, others_unfolded, heard_refused, heard_accepted, heard_inside}
 use Rattle.inbox.proofs.AcceptanceLemmas.{acceptable_judged}
 
 -- reserved room says nothing of what a window stands for
@@ -36,36 +35,42 @@ accepted_new None code kind item is = refl
 accepted_new (Some mark) code kind item is = let no = came_again (is_container kind && is_uncontained mark) mark is in cc
 
 -- the draft of an envelope's message was judged
-pub record Settled (way : Way) (session : Session) (message : Message) (envelope : Option ℕ) (draft : Draft) (judgement : Judgement) : Type 0 where
+pub record Settled (way : Way) (session : Session) (message : Message) (envelope : Option ℕ) (draft : Draft) (judgement : BareJudgement) : Type 0 where
   pub envelope_is : envelope ≡ by_envelope way message.number
   pub draft_is : draft ≡ draft_of message
   pub judgement_is : judgement ≡ draft_judgement envelope session draft
 
-module _ (way : Way) (session : Session) (message : Message) (envelope : Option ℕ) (draft : Draft) (judgement : Judgement) (settled : Settled way session message envelope draft judgement) where
-  pub on_message : judgement ≡ judgement_on way session message
+module _ (way : Way) (session : Session) (message : Message) (envelope : Option ℕ) (draft : Draft) (judgement : BareJudgement) (settled : Settled way session message envelope draft judgement) where
+  pub on_message : judgement ≡ bare_judgement (judgement_on way session message)
   on_message =
       settled.judgement_is
       ∙ ap (λ (e : Option ℕ). draft_judgement e session draft) settled.envelope_is
       ∙ ap (λ (d : Draft). draft_judgement (by_envelope way message.number) session d) settled.draft_is
+      ∙ draft_judged way session message
 
   pub session_on : draft_session envelope session draft ≡ judged_session way session message
   session_on =
       ap (λ (e : Option ℕ). draft_session e session draft) settled.envelope_is
       ∙ ap (λ (d : Draft). draft_session (by_envelope way message.number) session d) settled.draft_is
+      ∙ draft_settled way session message
 
-  accepted_as : (taken : Bool) → is_accepted judgement.verdict ≡ taken → is_accepted (judge way session message) ≡ taken
-  accepted_as taken is = ap (λ (j : Judgement). is_accepted j.verdict) (sym on_message) ∙ is
+  accepted_as : (taken : Bool) → is_bare_accepted judgement.verdict ≡ taken → is_accepted (judge way session message) ≡ taken
+  accepted_as taken is =
+      sym (accepted_so (judge way session message)) ∙ ap (λ (j : BareJudgement). is_bare_accepted j.verdict) (sym on_message) ∙ is
+
+  pub accepted_then : is_bare_accepted judgement.verdict ≡ true → is_accepted (judge way session message) ≡ true
+  accepted_then = accepted_as true
 
   -- it wasn't accepted
 
-  pub alone_judged : (js0 js1 : List Judgement) → is_accepted judgement.verdict ≡ false → js0 ≡ [] → js1 ≡ js0 ++ judgement ∷ [] → js1 ≡ judgements way session message
+  pub alone_judged : (js0 js1 : List BareJudgement) → is_bare_accepted judgement.verdict ≡ false → js0 ≡ [] → js1 ≡ js0 ++ judgement ∷ [] → js1 ≡ map bare_judgement (judgements way session message)
   alone_judged js0 js1 is empty pushed =
       pushed
-      ∙ ap (λ (js : List Judgement). js ++ judgement ∷ []) empty
-      ∙ ap (λ (j : Judgement). j ∷ []) on_message
-      ∙ ap (λ (ms : List Message). judgement_on way session message ∷ inner_judgements (judged_session way session message) ms) (sym (others_unfolded (judge way session message) message (accepted_as false is)))
+      ∙ ap (λ (js : List BareJudgement). js ++ judgement ∷ []) empty
+      ∙ ap (λ (j : BareJudgement). j ∷ []) on_message
+      ∙ ap (λ (ms : List Message). map bare_judgement (judgement_on way session message ∷ inner_judgements (judged_session way session message) ms)) (sym (others_unfolded (judge way session message) message (accepted_as false is)))
 
-  pub alone_stands : (w : Contents) (heard : Bool) → RoomCountsNothing → is_accepted judgement.verdict ≡ false → heard ≡ was_heard session.history
+  pub alone_stands : (w : Contents) (heard : Bool) → RoomCountsNothing → is_bare_accepted judgement.verdict ≡ false → heard ≡ was_heard session.history
       → WindowStands w (draft_session envelope session draft).history (draft_session envelope session draft).marks
       → Stands (record { window = without_room w; heard = heard }) (session_after way session message).history (session_after way session message).marks
   alone_stands w heard law is heard_is stands =
@@ -79,19 +84,20 @@ module _ (way : Way) (session : Session) (message : Message) (envelope : Option 
 
   -- it was accepted
 
-  pub all_judged : (drafts : List Draft) (js0 js1 js2 : List Judgement) → is_accepted judgement.verdict ≡ true → drafts ≡ map draft_of (inner_messages message)
-      → js0 ≡ [] → js1 ≡ js0 ++ judgement ∷ [] → js2 ≡ js1 ++ draft_judgements (draft_session envelope session draft) drafts → js2 ≡ judgements way session message
+  pub all_judged : (drafts : List Draft) (js0 js1 js2 : List BareJudgement) → is_bare_accepted judgement.verdict ≡ true → drafts ≡ map draft_of (inner_messages message)
+      → js0 ≡ [] → js1 ≡ js0 ++ judgement ∷ [] → js2 ≡ js1 ++ draft_judgements (draft_session envelope session draft) drafts → js2 ≡ map bare_judgement (judgements way session message)
   all_judged drafts js0 js1 js2 is drafts_are empty pushed settled_inside =
       let now = judged_session way session message in
+      let first : BareJudgement = bare_judgement (judgement_on way session message) in
       settled_inside
-      ∙ ap (λ (js : List Judgement). js ++ draft_judgements (draft_session envelope session draft) drafts) (pushed ∙ ap (λ (js : List Judgement). js ++ judgement ∷ []) empty)
-      ∙ ap (λ (j : Judgement). j ∷ draft_judgements (draft_session envelope session draft) drafts) on_message
-      ∙ ap (λ (s : Session). judgement_on way session message ∷ draft_judgements s drafts) session_on
-      ∙ ap (λ (ds : List Draft). judgement_on way session message ∷ draft_judgements (judged_session way session message) ds) drafts_are
-      ∙ ap (λ (js : List Judgement). judgement_on way session message ∷ js) (inner_judged (judged_session way session message) (inner_messages message))
-      ∙ ap (λ (ms : List Message). judgement_on way session message ∷ inner_judgements (judged_session way session message) ms) (sym (accepted_unfolded (judge way session message) message (accepted_as true is)))
+      ∙ ap (λ (js : List BareJudgement). js ++ draft_judgements (draft_session envelope session draft) drafts) (pushed ∙ ap (λ (js : List BareJudgement). js ++ judgement ∷ []) empty)
+      ∙ ap (λ (j : BareJudgement). j ∷ draft_judgements (draft_session envelope session draft) drafts) on_message
+      ∙ ap (λ (s : Session). first ∷ draft_judgements s drafts) session_on
+      ∙ ap (λ (ds : List Draft). first ∷ draft_judgements now ds) drafts_are
+      ∙ ap (λ (js : List BareJudgement). first ∷ js) (inner_judged now (inner_messages message))
+      ∙ ap (λ (ms : List Message). map bare_judgement (judgement_on way session message ∷ inner_judgements now ms)) (sym (accepted_unfolded (judge way session message) message (accepted_as true is)))
 
-  pub all_stands : (w : Contents) (drafts : List Draft) → RoomCountsNothing → is_accepted judgement.verdict ≡ true → drafts ≡ map draft_of (inner_messages message)
+  pub all_stands : (w : Contents) (drafts : List Draft) → RoomCountsNothing → is_bare_accepted judgement.verdict ≡ true → drafts ≡ map draft_of (inner_messages message)
       → WindowStands w (drafts_session (draft_session envelope session draft) drafts).history (drafts_session (draft_session envelope session draft) drafts).marks
       → Stands (record { window = without_room w; heard = true }) (session_after way session message).history (session_after way session message).marks
   all_stands w drafts law is drafts_are stands =
@@ -109,9 +115,9 @@ module _ (way : Way) (session : Session) (message : Message) (envelope : Option 
       }
 
 -- what nothing refuses is the first judgement, and is an acceptance
-pub first_accepted : (now : ℕ) (line : Line) (salt : ℕ) (session : Session) (message : Message) (js : List Judgement) → IsAcceptable now line salt session message
-    → js ≡ judgements (InEnvelope now line salt) session message
-    → slice_get js 0 ≡ Some (record { number = message.number; seq = message.seq; verdict = Accepted (item_told message.body) })
+pub first_accepted : (now : ℕ) (line : Line) (salt : ℕ) (session : Session) (message : Message) (js : List BareJudgement) → IsAcceptable now line salt session message
+    → js ≡ map bare_judgement (judgements (InEnvelope now line salt) session message)
+    → slice_get js 0 ≡ Some (bare_judgement (acceptance_of message))
 first_accepted now line salt session message js is js_are =
-    ap (λ (all : List Judgement). slice_get all 0) js_are
-    ∙ ap (λ (v : Verdict). Some (record { number = message.number; seq = message.seq; verdict = v })) (acceptable_judged now line salt session message is)
+    ap (λ (all : List BareJudgement). slice_get all 0) js_are
+    ∙ ap (λ (v : Verdict). Some (bare_judgement (record { number = message.number; seq = message.seq; verdict = v }))) (acceptable_judged now line salt session message is)

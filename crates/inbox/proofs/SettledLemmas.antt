@@ -1,7 +1,6 @@
 -- Judging of one draft after the other.
 use Rattle.std.proofs.Common.{◌≡◌, ℕ, Bool, true, false, cond, List, [], ◌∷◌, ◌++◌, length, Option, Some, None, refl, sym, ◌∙◌, ap, subst, append_assoc, arith}
 use Rattle.std.proofs.lemmas.List.{append-nil}
-use Rattle.service_tl.specs.declared.item.Item.{Item}
 use Rattle.id_window.specs.declared.mark.Mark.{Mark}
 use Rattle.id_window.specs.declared.mark.Mark.TheVariants.{Noticed as MarkNoticed}
 use Rattle.id_window.specs.Marks.{given, is_accepted}
@@ -11,37 +10,37 @@ use Rattle.inbox.specs.declared.draft.Draft.{Draft}
 use Rattle.inbox.specs.declared.kind.Kind.{Kind}
 use Rattle.inbox.specs.declared.kind.Kind.TheVariants.{Container, Unlawful, Acknowledgement, Call, Other}
 use Rattle.inbox.specs.declared.judged.Verdict.{Verdict}
-use Rattle.inbox.specs.declared.judged.Verdict.TheVariants.{Accepted as TakenAs, Noticed}
+use Rattle.inbox.specs.declared.judged.Verdict.TheVariants.{Accepted as Taken, Noticed}
 use Rattle.inbox.specs.declared.judged.Judgement.{Judgement}
 use Rattle.inbox.specs.Refusals.{first_code}
-use Rattle.inbox.specs.Judging.{Session, verdict_by, recorded, remembered, is_recorded, first_mark, outcome_of}
-use Rattle.inbox.specs.Drafts.{draft_judgement, draft_session, draft_judgements, drafts_session, draft_verdict, drafted}
+use Rattle.inbox.specs.Judging.{Session, remembered, is_recorded, first_mark, outcome_of}
+use Rattle.inbox.specs.Drafts.{bare_by, bare_recorded, draft_judgement, draft_session, draft_judgements, drafts_session, draft_verdict, drafted}
 
 -- the verdict by the mark and the code that the history gives
-pub same_verdict : (session : Session) (envelope : Option ℕ) (number seq : ℕ) (kind : Kind) (item : Item) (mark : Option Mark) (code : Option ℕ)
+pub same_verdict : (session : Session) (envelope : Option ℕ) (number seq : ℕ) (kind : Kind) (mark : Option Mark) (code : Option ℕ)
     → mark ≡ found number session.history session.marks
     → code ≡ first_code envelope (floor session.history) (crosses number seq session.history) number seq kind
-    → verdict_by mark code kind item ≡ draft_verdict envelope session (drafted number seq kind item)
-same_verdict session envelope number seq kind item mark code mark_is code_is =
-    ap (λ (m : Option Mark). verdict_by m code kind item) mark_is
-    ∙ ap (λ (c : Option ℕ). verdict_by (found number session.history session.marks) c kind item) code_is
+    → bare_by mark code kind ≡ draft_verdict envelope session (drafted number seq kind)
+same_verdict session envelope number seq kind mark code mark_is code_is =
+    ap (λ (m : Option Mark). bare_by m code kind) mark_is
+    ∙ ap (λ (c : Option ℕ). bare_by (found number session.history session.marks) c kind) code_is
 
 -- a window that stands for what is remembered by a verdict stands for it by the same one
 pub settled_by : (w : Contents) (session : Session) (number seq : ℕ) (kind : Kind) (verdict verdict' : Verdict) → verdict ≡ verdict'
-    → Stands w (remembered number seq (recorded kind verdict) session).history (remembered number seq (recorded kind verdict) session).marks
-    → Stands w (remembered number seq (recorded kind verdict') session).history (remembered number seq (recorded kind verdict') session).marks
+    → Stands w (remembered number seq (bare_recorded kind verdict) session).history (remembered number seq (bare_recorded kind verdict) session).marks
+    → Stands w (remembered number seq (bare_recorded kind verdict') session).history (remembered number seq (bare_recorded kind verdict') session).marks
 settled_by w session number seq kind verdict verdict' same stands =
-    subst (λ (v : Verdict). Stands w (remembered number seq (recorded kind v) session).history (remembered number seq (recorded kind v) session).marks) same stands
+    subst (λ (v : Verdict). Stands w (remembered number seq (bare_recorded kind v) session).history (remembered number seq (bare_recorded kind v) session).marks) same stands
 
 -- what is noted of a refused message, and of an accepted one
 pub settled_refused : (w : Contents) (session : Session) (number seq : ℕ) (kind : Kind) (code : ℕ) → is_recorded code ≡ true
     → Stands w (noted number seq (Refused code) session.history) (given number (MarkNoticed code) session.marks)
-    → Stands w (remembered number seq (recorded kind (Noticed code)) session).history (remembered number seq (recorded kind (Noticed code)) session).marks
+    → Stands w (remembered number seq (bare_recorded kind (Noticed code)) session).history (remembered number seq (bare_recorded kind (Noticed code)) session).marks
 settled_refused w session number seq kind code is stands =
     subst (λ (b : Bool). Stands w (remembered number seq (cond b (Some (Refused code)) None) session).history (remembered number seq (cond b (Some (Refused code)) None) session).marks) (sym is) stands
 
 pub settled_unrecorded : (w : Contents) (session : Session) (number seq : ℕ) (kind : Kind) (code : ℕ) → is_recorded code ≡ false → Stands w session.history session.marks
-    → Stands w (remembered number seq (recorded kind (Noticed code)) session).history (remembered number seq (recorded kind (Noticed code)) session).marks
+    → Stands w (remembered number seq (bare_recorded kind (Noticed code)) session).history (remembered number seq (bare_recorded kind (Noticed code)) session).marks
 settled_unrecorded w session number seq kind code is stands =
     subst (λ (b : Bool). Stands w (remembered number seq (cond b (Some (Refused code)) None) session).history (remembered number seq (cond b (Some (Refused code)) None) session).marks) (sym is) stands
 
@@ -52,10 +51,10 @@ accepted_mark Acknowledgement mark is = rw is refl
 accepted_mark Call mark is = rw is refl
 accepted_mark Other mark is = rw is refl
 
-pub settled_accepted : (w : Contents) (session : Session) (number seq : ℕ) (kind : Kind) (item : Item) (mark : Mark) → mark ≡ first_mark (outcome_of kind)
+pub settled_accepted : (w : Contents) (session : Session) (number seq : ℕ) (kind : Kind) (mark : Mark) → mark ≡ first_mark (outcome_of kind)
     → Stands w (noted number seq (outcome_of kind) session.history) (given number mark session.marks)
-    → Stands w (remembered number seq (recorded kind (TakenAs item)) session).history (remembered number seq (recorded kind (TakenAs item)) session).marks
-settled_accepted w session number seq kind item mark is stands =
+    → Stands w (remembered number seq (bare_recorded kind Taken) session).history (remembered number seq (bare_recorded kind Taken) session).marks
+settled_accepted w session number seq kind mark is stands =
     subst (λ (m : Mark). Stands w (noted number seq (outcome_of kind) session.history) (given number m session.marks)) is stands
 
 -- ---- the loop: what was judged so far, and the judgements of what is left, are all

@@ -5,8 +5,7 @@ use Rattle.id_window.specs.declared.cross.Cross.TheVariants.{None as Apart}
 use Rattle.id_window.specs.History.{is_kept, floor, crosses}
 use Rattle.service_tl.specs.declared.lists.Message.{Message}
 use Rattle.inbox.specs.declared.kind.Kind.TheVariants.{Unlawful}
-use Rattle.inbox.specs.declared.judged.Verdict.TheVariants.{Accepted}
-use Rattle.inbox.specs.declared.judged.Judgement.{Judgement}
+use Rattle.inbox.specs.Verdicts.{Accepted, Judgement}
 use Rattle.inbox.specs.Kinds.{kind_of, item_told}
 use Rattle.inbox.specs.Refusals.{second_of, needs_even, needs_odd}
 use Rattle.inbox.specs.Judging.{Session}

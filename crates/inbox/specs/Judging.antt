@@ -9,9 +9,7 @@ use Rattle.id_window.specs.Marks.{Marks, given}
 use Rattle.id_window.specs.History.{History, Outcome, Refused, AcceptedContainer, AcceptedCall, AcceptedOther, noted, found}
 use Rattle.inbox.specs.declared.kind.Kind.{Kind}
 use Rattle.inbox.specs.declared.kind.Kind.TheVariants.{Container, Unlawful, Call}
-use Rattle.inbox.specs.declared.judged.Verdict.{Verdict}
-use Rattle.inbox.specs.declared.judged.Verdict.TheVariants.{Accepted, Again, Noticed}
-use Rattle.inbox.specs.declared.judged.Judgement.{Judgement}
+use Rattle.inbox.specs.Verdicts.{Verdict, Accepted, Again, Noticed, Judgement}
 use Rattle.inbox.specs.Kinds.{kind_of, inner_messages, item_told}
 use Rattle.inbox.specs.Refusals.{Way, InContainer, refusal}
 

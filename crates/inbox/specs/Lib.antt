@@ -1,5 +1,6 @@
 pub mod Kinds
 pub mod Refusals
+pub mod Verdicts
 pub mod Judging
 pub mod Inbox
 pub mod States

@@ -1,25 +1,23 @@
 //! Messages that are read and not judged yet. Reading them takes all the memory that judging needs.
 
 ghost use Rattle.std.specs.Prelude.{◌≡◌, true, IfOk, map};
-ghost use Rattle.inbox.specs.Kinds.{item_told, inner_messages};
+ghost use Rattle.inbox.specs.Kinds.{inner_messages};
 ghost use Rattle.inbox.specs.Drafts.{draft_of};
 ghost use Rattle.inbox.specs.Inbox.{message_in};
 ghost use Rattle.containers.specs.Lent.{message_of};
 
 use crate::kind::{Kind, container_in, kind_among};
 use crate::outer::Outer;
-use containers::{Part, Parts, is_container};
+use containers::{Part, Parts};
 use octets::Memory;
-use service_tl::{Item, Messages, parse};
 use std::alloc::Global;
 
 /// A message that is read and not judged yet.
-#[derive(Drop)]
+#[derive(Clone, Copy)]
 pub(crate) struct Draft {
     pub number: u64,
     pub seq: u32,
     pub kind: Kind,
-    pub item: Item,
 }
 
 /// An envelope's message, and those inside it where it is new.
@@ -41,7 +39,6 @@ pub(crate) fn drafts_of(
         number: outer.number,
         seq: outer.seq,
         kind: kind_among(&container, body),
-        item: item_told(alloc, body)?,
     };
     let inner = match container {
         Some(Ok(parts)) if is_new => inner_drafts(alloc, parts)?,
@@ -55,31 +52,18 @@ fn inner_drafts(alloc: Global, parts: Parts<'_>) -> Result<Vec<Draft>, Memory>
 {
     let mut drafts = Vec::with_capacity(alloc, parts.len())?;
     for part in parts {
-        drafts.push(inner_draft(alloc, &part)?)?;
+        drafts.push(inner_draft(&part))?;
     }
     Ok(drafts)
 }
 
-fn inner_draft(alloc: Global, part: &Part<'_>) -> Result<Draft, Memory>
-    ensures { IfOk result (λ draft. draft ≡ draft_of (message_of part.now)) }
+fn inner_draft(part: &Part<'_>) -> Draft
+    ensures { result ≡ draft_of (message_of part.now) }
 {
     let container = container_in(part.number, part.body);
-    Ok(Draft {
+    Draft {
         number: part.number,
         seq: part.seq,
         kind: kind_among(&container, part.body),
-        item: item_told(alloc, part.body)?,
-    })
-}
-
-/// The item that the body is; of a container only that it is one.
-fn item_told(alloc: Global, body: &[u8]) -> Result<Item, Memory>
-    ensures { IfOk result (λ item. item ≡ item_told body.now) }
-{
-    if is_container(body) {
-        return Ok(Item::MsgContainer {
-            messages: Messages::new(alloc),
-        });
     }
-    parse(alloc, body)
 }

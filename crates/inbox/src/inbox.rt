@@ -41,6 +41,7 @@ impl Inbox {
     ghost use Rattle.inbox.specs.Inbox.{Stands, Remembers, message_in, was_heard};
     ghost use Rattle.inbox.specs.States.{state_byte};
     ghost use Rattle.inbox.specs.Acceptance.{IsAcceptable, acceptance_of};
+    ghost use Rattle.inbox.specs.Verdicts.{bare_judgement};
 
     /// An inbox to which no message came.
     ///
@@ -72,14 +73,14 @@ impl Inbox {
     ) -> Result<Judged, Memory>
         requires { line.now.latest ≤ now }
         ensures judged { (session : Session) (salts : Line) → Remembers self.old session → LineStands line.now salts
-            → IfOk result (λ judged. judged ≡ judgements (InEnvelope now salts outer.now.salt) session (message_in outer.now)) }
+            → IfOk result (λ judged. judged ≡ map bare_judgement (judgements (InEnvelope now salts outer.now.salt) session (message_in outer.now))) }
         ensures recorded { (session : Session) (salts : Line) → Remembers self.old session → LineStands line.now salts
             → OnOk result (Remembers self.new (session_after (InEnvelope now salts outer.now.salt) session (message_in outer.now))) }
 
         // A message that nothing refuses is accepted.
         ensures accepts { (session : Session) (salts : Line) → Remembers self.old session → LineStands line.now salts
             → IsAcceptable now salts outer.now.salt session (message_in outer.now)
-            → IfOk result (λ judged. slice_get judged 0 ≡ Some (acceptance_of (message_in outer.now))) }
+            → IfOk result (λ judged. slice_get judged 0 ≡ Some (bare_judgement (acceptance_of (message_in outer.now)))) }
         ensures unchanged_on_memory { OnErr result (self.new ≡ self.old) }
     {
         room_counts_nothing();

@@ -3,15 +3,13 @@
 ghost use Rattle.std.specs.Prelude.{◌≡◌};
 
 use id_window::Mark;
-use service_tl::Item;
 use std::marker::Model;
 
 /// What became of a message.
-#[derive(Debug, Drop)]
+#[derive(Clone, Copy, Debug)]
 pub enum Verdict {
-    /// It was accepted now, and is this item. A container's item has no messages: each of them has a judgement of its
-    /// own.
-    Accepted(Item),
+    /// It was accepted now.
+    Accepted,
     /// It came before, and its number has this mark.
     Again(Mark),
     /// It is refused with the notice of this code.
@@ -19,18 +17,18 @@ pub enum Verdict {
 }
 
 impl Verdict {
-    ghost use Rattle.inbox.specs.Judging.{is_accepted};
+    ghost use Rattle.inbox.specs.Verdicts.{is_bare_accepted};
 
     /// Whether the message was accepted now.
     pub fn is_accepted(&self) -> bool
-        ensures { result ≡ is_accepted self.now }
+        ensures { result ≡ is_bare_accepted self.now }
     {
-        matches!(self, Verdict::Accepted(_))
+        matches!(self, Verdict::Accepted)
     }
 }
 
 /// A message's number and sequence number with its verdict.
-#[derive(Debug, Drop)]
+#[derive(Clone, Copy, Debug)]
 pub struct Judgement {
     /// The message's number.
     pub number: u64,

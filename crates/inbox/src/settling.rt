@@ -2,16 +2,15 @@
 
 ghost use Rattle.std.specs.Prelude.{◌≡◌, ◌<◌, ◌≤◌, ◌+◌, ◌++◌, None, length, vec_len, vec_capacity};
 ghost use Rattle.id_window.specs.Window.{Stands};
-ghost use Rattle.service_tl.specs.declared.item.Item.{Item as ItemRead};
 ghost use Rattle.inbox.specs.Judging.{Session, verdict_again, is_recorded};
-ghost use Rattle.inbox.specs.Drafts.{draft_judgement, draft_session, draft_judgements, drafts_session, draft_verdict, drafted, verdict_on};
+ghost use Rattle.inbox.specs.Drafts.{draft_judgement, draft_session, draft_judgements, drafts_session, draft_verdict, drafted};
+ghost use Rattle.inbox.specs.Verdicts.{bare};
 
 use crate::draft::Draft;
 use crate::judged::{Judgement, Verdict};
 use crate::kind::Kind;
 use crate::refusal::refusal;
 use id_window::{Mark, Window};
-use service_tl::Item;
 use service_tl::codes::{CONTAINER_NUMBER_TAKEN, FORGOTTEN};
 
 /// Judges a message, where this is the code by its envelope, and notes what is new.
@@ -22,59 +21,43 @@ pub(crate) fn settle(window: &mut Window, envelope: Option<u32>, draft: Draft) -
         → Stands window.new (draft_session envelope session draft).history (draft_session envelope session draft).marks }
     ensures room { window.old.room ≤ window.new.room + 1 }
 {
-    let Draft {
-        number,
-        seq,
-        kind,
-        item,
-    } = draft;
-    let refused = ruled(window, envelope, number, seq, kind);
+    let Draft { number, seq, kind } = draft;
     Judgement {
         number,
         seq,
-        verdict: verdict_on(refused, item),
+        verdict: verdict_on(window, envelope, number, seq, kind),
     }
 }
 
-/// The verdict on a message of this item: the one that refuses it, where there is one.
-fn verdict_on(refused: Option<Verdict>, item: Item) -> Verdict
-    ensures { result ≡ verdict_on refused item }
-{
-    match refused {
-        Some(verdict) => verdict,
-        None => Verdict::Accepted(item),
-    }
-}
-
-/// Finds the verdict on a message, where it isn't accepted, and notes the message where it is new.
-fn ruled(
+/// Finds the verdict on a message, and notes the message where it is new.
+fn verdict_on(
     window: &mut Window,
     envelope: Option<u32>,
     number: u64,
     seq: u32,
     kind: Kind,
-) -> Option<Verdict>
+) -> Verdict
     requires { 0 < window.old.room }
-    ensures judged { (session : Session) (item : ItemRead) → Stands window.old session.history session.marks
-        → verdict_on result item ≡ draft_verdict envelope session (drafted number seq kind item) }
-    ensures stands { (session : Session) (item : ItemRead) → Stands window.old session.history session.marks
-        → Stands window.new (draft_session envelope session (drafted number seq kind item)).history (draft_session envelope session (drafted number seq kind item)).marks }
+    ensures judged { (session : Session) → Stands window.old session.history session.marks
+        → result ≡ draft_verdict envelope session (drafted number seq kind) }
+    ensures stands { (session : Session) → Stands window.old session.history session.marks
+        → Stands window.new (draft_session envelope session (drafted number seq kind)).history (draft_session envelope session (drafted number seq kind)).marks }
     ensures room { window.old.room ≤ window.new.room + 1 }
 {
     if let Some(mark) = window.find(number) {
-        return Some(verdict_again(kind, mark));
+        return verdict_again(kind, mark);
     }
     match refusal(window, envelope, number, seq, kind) {
         None => {
             window.note(number, seq, kind.first_mark());
-            None
+            Verdict::Accepted
         }
         Some(code) => {
             if is_recorded(code) {
                 window.note(number, seq, Mark::Noticed(code));
-                return Some(Verdict::Noticed(code));
+                return Verdict::Noticed(code);
             }
-            Some(Verdict::Noticed(code))
+            Verdict::Noticed(code)
         }
     }
 }
@@ -87,7 +70,7 @@ fn is_recorded(code: u32) -> bool
 }
 
 fn verdict_again(kind: Kind, mark: Mark) -> Verdict
-    ensures { result ≡ verdict_again kind mark }
+    ensures { result ≡ bare (verdict_again kind mark) }
 {
     if kind.is_container() && !matches!(mark, Mark::Noticed(_) | Mark::Container) {
         return Verdict::Noticed(CONTAINER_NUMBER_TAKEN);

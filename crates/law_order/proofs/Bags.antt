@@ -14,8 +14,7 @@ use Rattle.containers.specs.Parts.{parts_of}
 use Rattle.envelope.specs.declared.parts.Dir.{Dir}
 use Rattle.envelope.specs.declared.parts.Dir.TheVariants.{Up, Down}
 use Rattle.envelope.specs.declared.parts.Envelope.{Envelope}
-use Rattle.inbox.specs.declared.judged.Verdict.{Verdict}
-use Rattle.inbox.specs.declared.judged.Verdict.TheVariants.{Accepted, Again, Noticed}
+use Rattle.inbox.specs.Verdicts.{Verdict, Accepted, Again, Noticed}
 use Rattle.inbox.specs.Kinds.{inner_messages, parts_among}
 use Rattle.inbox.specs.Judging.{judge, unfolded}
 use Rattle.client_rules.specs.Taking.{message_in}

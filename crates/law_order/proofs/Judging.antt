@@ -15,9 +15,7 @@ use Rattle.id_window.specs.declared.cross.Cross.TheVariants.{None as Apart, Low,
 use Rattle.msg_ids.specs.Counters.{is_odd}
 use Rattle.id_window.specs.Marks.{Marks, mark_of}
 use Rattle.id_window.specs.History.{AcceptedCall, AcceptedContainer, AcceptedOther, FirstJudgement, History, Outcome, Refused, crosses, floor, found, is_kept}
-use Rattle.inbox.specs.declared.judged.Judgement.{Judgement}
-use Rattle.inbox.specs.declared.judged.Verdict.{Verdict}
-use Rattle.inbox.specs.declared.judged.Verdict.TheVariants.{Accepted, Again, Noticed}
+use Rattle.inbox.specs.Verdicts.{Judgement, Verdict, Accepted, Again, Noticed}
 use Rattle.inbox.specs.Kinds.{begins_acknowledgement, begins_call, item_told, kind_among, kind_beginning, kind_of}
 use Rattle.service_tl.specs.Results.{constructor_of}
 use Rattle.inbox.specs.Refusals.{Way, InContainer, InEnvelope, by_body, by_envelope, by_neighbours, by_number, by_parity, is_valid_salt, needs_even, needs_odd, refusal, second_of}

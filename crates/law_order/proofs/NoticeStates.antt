@@ -10,9 +10,7 @@ use Rattle.salt_line.specs.Line.{current_salt}
 use Rattle.id_window.specs.History.{History}
 use Rattle.inbox.specs.Refusals.{InEnvelope}
 use Rattle.inbox.specs.Judging.{judge, judgements, session_after, unfolded}
-use Rattle.inbox.specs.declared.judged.Judgement.{Judgement}
-use Rattle.inbox.specs.declared.judged.Verdict.{Verdict}
-use Rattle.inbox.specs.declared.judged.Verdict.TheVariants.{Accepted}
+use Rattle.inbox.specs.Verdicts.{Judgement, Verdict, Accepted}
 use Rattle.packing.specs.Packing.{after_outer, after_packets, grouped, groups, is_within, outer_of, outers_of, packets_of}
 use Rattle.regs_service.specs.Served.{Step}
 use Rattle.waits.specs.declared.job.Job.{Job}

@@ -19,8 +19,7 @@ use Rattle.service_tl.specs.Schema.{schema, service_numbers, auth_bind_temp_auth
 use Rattle.containers.specs.declared.fault.ContainerFault.{ContainerFault}
 use Rattle.containers.specs.Container.{IsContainer, IsInner, begins_container, constructor, container_of, head_of, row}
 use Rattle.containers.specs.Parts.{parts_of}
-use Rattle.inbox.specs.declared.judged.Verdict.{Verdict}
-use Rattle.inbox.specs.declared.judged.Verdict.TheVariants.{Accepted, Again, Noticed}
+use Rattle.inbox.specs.Verdicts.{Verdict, Accepted, Again, Noticed}
 use Rattle.inbox.specs.Kinds.{inner_messages, item_told, parts_among}
 use Rattle.inbox.specs.Judging.{unfolded}
 use Rattle.client_rules.specs.Asking.{begins_service, is_refused}

@@ -16,8 +16,7 @@ use Rattle.id_window.specs.declared.mark.Mark.{Mark}
 use Rattle.id_window.specs.declared.mark.Mark.TheVariants.{Noticed as MarkNoticed, Service, Container, Waiting, Replied, Acked, Dropped}
 use Rattle.service_tl.specs.Results.{constructor_of}
 use Rattle.inbox.specs.States.{state_byte}
-use Rattle.inbox.specs.declared.judged.Verdict.{Verdict}
-use Rattle.inbox.specs.declared.judged.Verdict.TheVariants.{Accepted, Again, Noticed}
+use Rattle.inbox.specs.Verdicts.{Verdict, Accepted, Again, Noticed}
 use Rattle.waits.specs.declared.job.Job.{Job}
 use Rattle.waits.specs.Jobs.{Queue, accepted, is_call, first_job, without_first}
 use Rattle.server_rules.specs.Server.{Binding, Name, Reply, has_accepted, is_kept, kept_of, kept_replies, mark_in, marks_of, name_of, reply_to}

@@ -13,9 +13,7 @@ use Rattle.id_window.specs.declared.mark.Mark.{Mark}
 use Rattle.inbox.specs.Kinds.{item_told, kind_of}
 use Rattle.inbox.specs.Refusals.{Way, InContainer, InEnvelope, refusal}
 use Rattle.inbox.specs.Judging.{Session as Remembered, inner_judgements, judge, judged_session, judgement_on, judgements, session_after, unfolded, verdict_by}
-use Rattle.inbox.specs.declared.judged.Judgement.{Judgement}
-use Rattle.inbox.specs.declared.judged.Verdict.{Verdict}
-use Rattle.inbox.specs.declared.judged.Verdict.TheVariants.{Accepted, Again, Noticed}
+use Rattle.inbox.specs.Verdicts.{Judgement, Verdict, Accepted, Again, Noticed}
 use Rattle.packing.specs.Packing.{packets_of, after_packets}
 use Rattle.regs_service.specs.Served.{Step}
 use Rattle.waits.specs.declared.job.Job.{Job}

@@ -10,9 +10,7 @@ use Rattle.service_tl.specs.Schema.{rpc_drop_answer}
 use Rattle.id_window.specs.History.{History}
 use Rattle.id_window.specs.declared.mark.Mark.{Mark}
 use Rattle.id_window.specs.declared.mark.Mark.TheVariants.{Noticed as MarkNoticed, Replied, Dropped}
-use Rattle.inbox.specs.declared.judged.Judgement.{Judgement}
-use Rattle.inbox.specs.declared.judged.Verdict.{Verdict}
-use Rattle.inbox.specs.declared.judged.Verdict.TheVariants.{Accepted, Again, Noticed}
+use Rattle.inbox.specs.Verdicts.{Judgement, Verdict, Accepted, Again, Noticed}
 use Rattle.waits.specs.declared.job.Job.{Job}
 use Rattle.waits.specs.Jobs.{first_job, is_call}
 use Rattle.server_rules.specs.Server.{Binding, Reply, has_accepted, is_kept, mark_in, reply_to}

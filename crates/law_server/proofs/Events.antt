@@ -15,9 +15,7 @@ use Rattle.msg_ids.specs.Counters.{Counters, after_next}
 use Rattle.salt_line.specs.Line.{current_salt}
 use Rattle.packing.specs.Packing.{groups, after_outers, after_packets, packets_of}
 use Rattle.regs_service.specs.Served.{Step}
-use Rattle.inbox.specs.declared.judged.Verdict.{Verdict}
-use Rattle.inbox.specs.declared.judged.Verdict.TheVariants.{Accepted, Again, Noticed}
-use Rattle.inbox.specs.declared.judged.Judgement.{Judgement}
+use Rattle.inbox.specs.Verdicts.{Verdict, Accepted, Again, Noticed, Judgement}
 use Rattle.inbox.specs.Refusals.{InEnvelope, Way}
 use Rattle.inbox.specs.Judging.{judgements, session_after, is_accepted, Session as Remembered}
 use Rattle.waits.specs.declared.job.Job.{Job}

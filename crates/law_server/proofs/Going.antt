@@ -3,7 +3,7 @@ use Rattle.std.proofs.Common.{◌≡◌, ◌≢◌, ◌∙◌, ℕ, zero, suc, �
 use Rattle.std.specs.Prelude.{length, ◌&&◌}
 use Rattle.std.proofs.lemmas.Bool.{cond_both, cond-true, cond-false}
 use Rattle.id_window.specs.History.{History}
-use Rattle.inbox.specs.declared.judged.Verdict.{Verdict}
+use Rattle.inbox.specs.Verdicts.{Verdict}
 use Rattle.waits.specs.declared.job.Job.{Job}
 use Rattle.waits.specs.declared.job.Unfinished.{Unfinished}
 use Rattle.waits.specs.Jobs.{Queue, has_failed, is_overdue, first_job, without_first, ready_job, without_ready, one_if}

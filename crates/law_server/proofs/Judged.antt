@@ -12,9 +12,7 @@ use Rattle.service_tl.specs.declared.lists.Message.{Message}
 use Rattle.id_window.specs.declared.mark.Mark.{Mark}
 use Rattle.id_window.specs.Marks.{Marks, mark_of, given}
 use Rattle.id_window.specs.History.{History, FirstJudgement, Outcome, AcceptedCall, EachOnce, noted, inserted, ascending, window_numbers, kept, is_kept, found, floor, crosses, was_accepted}
-use Rattle.inbox.specs.declared.judged.Verdict.{Verdict}
-use Rattle.inbox.specs.declared.judged.Verdict.TheVariants.{Accepted, Again, Noticed}
-use Rattle.inbox.specs.declared.judged.Judgement.{Judgement}
+use Rattle.inbox.specs.Verdicts.{Verdict, Accepted, Again, Noticed, Judgement}
 use Rattle.containers.specs.declared.fault.ContainerFault.{ContainerFault}
 use Rattle.inbox.specs.Kinds.{kind_of, item_told, kind_among, container_in, begins_acknowledgement, begins_call}
 use Rattle.service_tl.specs.Results.{constructor_of}

@@ -15,9 +15,7 @@ use Rattle.id_window.specs.declared.mark.Mark.TheVariants.{Noticed as MarkNotice
 use Rattle.msg_ids.specs.Counters.{is_odd}
 use Rattle.id_window.specs.History.{History, FirstJudgement, was_accepted}
 use Rattle.inbox.specs.Inbox.{was_heard}
-use Rattle.inbox.specs.declared.judged.Verdict.{Verdict}
-use Rattle.inbox.specs.declared.judged.Verdict.TheVariants.{Accepted, Again, Noticed}
-use Rattle.inbox.specs.declared.judged.Judgement.{Judgement}
+use Rattle.inbox.specs.Verdicts.{Verdict, Accepted, Again, Noticed, Judgement}
 use Rattle.inbox.specs.Judging.{Session as Remembered, judge, inner_judgements, judged_session, unfolded}
 use Rattle.server_rules.specs.Server.{Name, Session, Reply, name_of, is_same, session_named, has_accepted, mark_in, reply_to, remembered}
 use Rattle.server_rules.specs.Event.{Setting, State, Speaker, Envelope, Owed, speaker_in, spoken_by, speaks}

@@ -9,7 +9,7 @@ use Rattle.service_tl.specs.declared.lists.Message.{Message}
 use Rattle.msg_ids.specs.Counters.{Counters}
 use Rattle.id_window.specs.History.{History, FirstJudgement, was_accepted}
 use Rattle.inbox.specs.Inbox.{was_heard}
-use Rattle.inbox.specs.declared.judged.Judgement.{Judgement}
+use Rattle.inbox.specs.Verdicts.{Judgement}
 use Rattle.packing.specs.Packing.{is_within, grouped, outer_of, outers_of, after_outer, packed, packets_of}
 use Rattle.waits.specs.declared.job.Unfinished.{Unfinished}
 use Rattle.waits.specs.Jobs.{Queue}

@@ -12,7 +12,7 @@ use Rattle.std.proofs.lemmas.Bool.{cond_both}
 use Rattle.std.proofs.lemmas.List.{length-append}
 use Rattle.std.proofs.lemmas.List.Elements.{All-filter}
 use Rattle.service_tl.specs.declared.lists.Message.{Message}
-use Rattle.inbox.specs.declared.judged.Judgement.{Judgement}
+use Rattle.inbox.specs.Verdicts.{Judgement}
 use Rattle.inbox.specs.Refusals.{InEnvelope}
 use Rattle.inbox.specs.Judging.{judgements, session_after}
 use Rattle.salt_line.specs.Line.{current_salt}

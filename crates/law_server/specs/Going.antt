@@ -2,7 +2,7 @@
 -- the packet's session that are open still.
 use Rattle.std.specs.Prelude.{ℕ, if◌then◌else◌, Option, Some, None, List, [], ◌∷◌}
 use Rattle.id_window.specs.History.{History}
-use Rattle.inbox.specs.declared.judged.Verdict.{Verdict}
+use Rattle.inbox.specs.Verdicts.{Verdict}
 use Rattle.inbox.specs.Judging.{is_accepted}
 use Rattle.server_rules.specs.Server.{Name, Session, is_same, session_named}
 

@@ -6,9 +6,7 @@ use Rattle.service_tl.specs.declared.item.Item.{Item}
 use Rattle.service_tl.specs.declared.item.Item.TheVariants.{InvokeAfterMsg, InvokeAfterMsgs, Packed, Call, Broken}
 use Rattle.service_tl.specs.Schema.{rpc_drop_answer}
 use Rattle.id_window.specs.History.{History}
-use Rattle.inbox.specs.declared.judged.Verdict.{Verdict}
-use Rattle.inbox.specs.declared.judged.Verdict.TheVariants.{Accepted}
-use Rattle.inbox.specs.declared.judged.Judgement.{Judgement}
+use Rattle.inbox.specs.Verdicts.{Verdict, Accepted, Judgement}
 use Rattle.inbox.specs.Refusals.{Way, InEnvelope}
 use Rattle.inbox.specs.Judging.{judgements, session_after}
 use Rattle.regs_service.specs.Served.{Step}

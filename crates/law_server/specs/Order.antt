@@ -4,9 +4,7 @@ use Rattle.std.specs.List.{filter}
 use Rattle.id_window.specs.History.{History, FirstJudgement, AcceptedCall, EachOnce, was_accepted}
 use Rattle.service_tl.specs.declared.item.Item.{Item}
 use Rattle.service_tl.specs.declared.item.Item.TheVariants.{RpcResult, InvokeAfterMsg, InvokeAfterMsgs, Call}
-use Rattle.inbox.specs.declared.judged.Verdict.{Verdict}
-use Rattle.inbox.specs.declared.judged.Verdict.TheVariants.{Accepted}
-use Rattle.inbox.specs.declared.judged.Judgement.{Judgement}
+use Rattle.inbox.specs.Verdicts.{Verdict, Accepted, Judgement}
 use Rattle.inbox.specs.Judging.{is_accepted}
 use Rattle.packing.specs.Numbering.{numbered}
 use Rattle.waits.specs.Jobs.{Queue, is_of}

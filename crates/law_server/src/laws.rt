@@ -24,11 +24,10 @@ ghost use Rattle.server_rules.specs.Rows.{accepts, acknowledges, answers_broken,
 ghost use Rattle.server_rules.specs.Answer.{after_attach, attaches, begun, finishes, hears, opens};
 ghost use Rattle.server_rules.specs.Sending.{messages_by, sends};
 ghost use Rattle.inbox.specs.Inbox.{was_heard};
-ghost use Rattle.inbox.specs.declared.judged.Judgement.{Judgement};
+ghost use Rattle.inbox.specs.Verdicts.{Judgement, Verdict};
 ghost use Rattle.msg_ids.specs.Counters.{Counters, room};
 ghost use Rattle.packing.specs.Packing.{packets_of};
 ghost use Rattle.law_server.specs.Start.{BeginsWith, SaysItIsNew, new_owed};
-ghost use Rattle.inbox.specs.declared.judged.Verdict.{Verdict};
 ghost use Rattle.server_rules.specs.Rows.{owes, row};
 ghost use Rattle.law_server.specs.Speech.{SaidFor};
 ghost use Rattle.law_server.specs.Witness as shown;

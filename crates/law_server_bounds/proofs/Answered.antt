@@ -12,9 +12,7 @@ use Rattle.packing.specs.Numbering.{numbered}
 use Rattle.packing.specs.Packing.{after_packets, packets_of}
 use Rattle.id_window.specs.History.{History}
 use Rattle.outbox.specs.Replies.{fits}
-use Rattle.inbox.specs.declared.judged.Judgement.{Judgement}
-use Rattle.inbox.specs.declared.judged.Verdict.{Verdict}
-use Rattle.inbox.specs.declared.judged.Verdict.TheVariants.{Accepted, Again, Noticed}
+use Rattle.inbox.specs.Verdicts.{Judgement, Verdict, Accepted, Again, Noticed}
 use Rattle.waits.specs.declared.job.Job.{Job}
 use Rattle.waits.specs.declared.job.Unfinished.{Unfinished}
 use Rattle.waits.specs.Jobs.{Queue, accepted as with_job, after_answer, first_job, has_failed, is_call, is_of, told, waits_for, without_first, without_session as without_jobs_of}

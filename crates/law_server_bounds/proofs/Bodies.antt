@@ -9,8 +9,7 @@ use Rattle.service_tl.specs.declared.lists.Message.{Message}
 use Rattle.containers.specs.declared.fault.ContainerFault.{ContainerFault}
 use Rattle.containers.specs.Container.{IsContainer, begins_container}
 use Rattle.containers.specs.Parts.{parts_of}
-use Rattle.inbox.specs.declared.judged.Verdict.{Verdict}
-use Rattle.inbox.specs.declared.judged.Verdict.TheVariants.{Accepted, Again, Noticed}
+use Rattle.inbox.specs.Verdicts.{Verdict, Accepted, Again, Noticed}
 use Rattle.inbox.specs.Kinds.{inner_messages, parts_among}
 use Rattle.inbox.specs.Refusals.{Way}
 use Rattle.inbox.specs.Judging.{judge, judgements, unfolded}

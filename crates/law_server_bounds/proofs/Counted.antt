@@ -9,9 +9,7 @@ use Rattle.service_tl.specs.declared.item.Item.TheVariants.{DestroySession, Dest
 use Rattle.service_tl.specs.declared.lists.Message.{Message}
 use Rattle.packing.specs.Numbering.{numbered}
 use Rattle.id_window.specs.History.{History}
-use Rattle.inbox.specs.declared.judged.Judgement.{Judgement}
-use Rattle.inbox.specs.declared.judged.Verdict.{Verdict}
-use Rattle.inbox.specs.declared.judged.Verdict.TheVariants.{Accepted, Again, Noticed}
+use Rattle.inbox.specs.Verdicts.{Judgement, Verdict, Accepted, Again, Noticed}
 use Rattle.waits.specs.declared.job.Job.{Job}
 use Rattle.waits.specs.declared.job.Unfinished.{Unfinished}
 use Rattle.waits.specs.Jobs.{Queue, accepted as with_job, after_answer, first_job, has_failed, is_call, is_overdue, is_ready, without_first, without_ready, without_session as without_jobs_of, is_of}

@@ -12,9 +12,7 @@ use Rattle.containers.specs.Container.{begins_container, container_head, message
 use Rattle.containers.specs.Parts.{after, causes, first_from, message_in as first_message, messages_in, parts_of, texts, unless}
 use Rattle.regs_service.specs.Served.{Step}
 use Rattle.inbox.specs.Kinds.{container_in, inner_messages, parts_among}
-use Rattle.inbox.specs.declared.judged.Judgement.{Judgement}
-use Rattle.inbox.specs.declared.judged.Verdict.{Verdict}
-use Rattle.inbox.specs.declared.judged.Verdict.TheVariants.{Accepted, Again, Noticed}
+use Rattle.inbox.specs.Verdicts.{Judgement, Verdict, Accepted, Again, Noticed}
 use Rattle.inbox.specs.Refusals.{Way, InEnvelope}
 use Rattle.inbox.specs.Judging.{judge, judgements, session_after, unfolded}
 use Rattle.outbox.specs.Replies.{IsWithin}

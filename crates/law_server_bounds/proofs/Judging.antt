@@ -19,9 +19,7 @@ use Rattle.service_tl.specs.declared.item.Item.TheVariants.{MsgContainer, MsgsSt
 use Rattle.service_tl.specs.ItemOf.{item_of}
 use Rattle.service_tl.specs.Items.{IsOfSchema, ItemFits}
 use Rattle.byteorder.specs.Endian.{little_bytes}
-use Rattle.inbox.specs.declared.judged.Verdict.{Verdict}
-use Rattle.inbox.specs.declared.judged.Verdict.TheVariants.{Accepted, Again, Noticed}
-use Rattle.inbox.specs.declared.judged.Judgement.{Judgement}
+use Rattle.inbox.specs.Verdicts.{Verdict, Accepted, Again, Noticed, Judgement}
 use Rattle.inbox.specs.Kinds.{begins_acknowledgement, begins_call, container_in, inner_messages, item_told, kind_among, kind_of, parts_among}
 use Rattle.service_tl.specs.Results.{constructor_of}
 use Rattle.inbox.specs.Refusals.{Way, InContainer, InEnvelope, by_body, by_envelope, by_neighbours, by_number, by_parity, is_valid_salt, needs_even, needs_odd, refusal, second_of}

@@ -6,9 +6,7 @@ use Rattle.std.proofs.lemmas.Bool.{cases_Bool, cond_both, cond-false, and_parts,
 use Rattle.std.proofs.lemmas.List.Elements.{All-contains, Contains-append_right}
 use Rattle.service_tl.specs.declared.item.Item.{Item}
 use Rattle.service_tl.specs.declared.item.Item.TheVariants.{DestroySession, DestroySessionOk, DestroySessionNone}
-use Rattle.inbox.specs.declared.judged.Judgement.{Judgement}
-use Rattle.inbox.specs.declared.judged.Verdict.{Verdict}
-use Rattle.inbox.specs.declared.judged.Verdict.TheVariants.{Accepted, Again, Noticed}
+use Rattle.inbox.specs.Verdicts.{Judgement, Verdict, Accepted, Again, Noticed}
 use Rattle.inbox.specs.Refusals.{InEnvelope}
 use Rattle.inbox.specs.Judging.{judgements, session_after}
 use Rattle.regs_service.specs.Served.{Step}

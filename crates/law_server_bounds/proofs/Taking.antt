@@ -15,9 +15,7 @@ use Rattle.msg_ids.specs.Counters.{is_odd}
 use Rattle.id_window.specs.Marks.{Marks}
 use Rattle.id_window.specs.History.{History, FirstJudgement, Outcome, noted, was_accepted}
 use Rattle.containers.specs.declared.fault.ContainerFault.{ContainerFault}
-use Rattle.inbox.specs.declared.judged.Judgement.{Judgement}
-use Rattle.inbox.specs.declared.judged.Verdict.{Verdict}
-use Rattle.inbox.specs.declared.judged.Verdict.TheVariants.{Accepted, Again, Noticed}
+use Rattle.inbox.specs.Verdicts.{Judgement, Verdict, Accepted, Again, Noticed}
 use Rattle.inbox.specs.Kinds.{begins_acknowledgement, begins_call, container_in, inner_messages, item_told, kind_among, kind_beginning, kind_of}
 use Rattle.service_tl.specs.Results.{constructor_of}
 use Rattle.inbox.specs.Refusals.{InContainer, InEnvelope}

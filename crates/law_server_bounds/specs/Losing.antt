@@ -2,8 +2,7 @@
 -- has, and how many further numbers each needs room for, is this project's choice).
 use Rattle.std.specs.Prelude.{◌≡◌, ◌≢◌, ◌≤◌, ◌⊎◌, ⊤, ℕ, true, Option, Some, None, List, ◌∷◌, Contains, length}
 use Rattle.service_tl.specs.declared.item.Item.TheVariants.{DestroySession}
-use Rattle.inbox.specs.declared.judged.Judgement.{Judgement}
-use Rattle.inbox.specs.declared.judged.Verdict.TheVariants.{Accepted}
+use Rattle.inbox.specs.Verdicts.{Judgement, Accepted}
 use Rattle.inbox.specs.Judging.{judgements}
 use Rattle.inbox.specs.Refusals.{InEnvelope}
 use Rattle.regs_service.specs.Served.{Step}

@@ -13,8 +13,7 @@ use Rattle.service_tl.specs.declared.item.Item.TheVariants.{Packed, Broken, Auth
 use Rattle.service_tl.specs.Schema.{rpc_drop_answer}
 use Rattle.id_window.specs.declared.mark.Mark.{Mark}
 use Rattle.id_window.specs.declared.mark.Mark.TheVariants.{Noticed as MarkNoticed, Replied, Dropped}
-use Rattle.inbox.specs.declared.judged.Verdict.{Verdict}
-use Rattle.inbox.specs.declared.judged.Verdict.TheVariants.{Accepted, Again, Noticed}
+use Rattle.inbox.specs.Verdicts.{Verdict, Accepted, Again, Noticed}
 use Rattle.waits.specs.declared.job.Job.{Job}
 use Rattle.waits.specs.Jobs.{first_job, is_call}
 use Rattle.server_rules.specs.Server.{Reply, Session, is_kept, mark_in, reply_to}

@@ -13,9 +13,7 @@ use Rattle.id_window.specs.declared.cross.Cross.TheVariants.{None as Apart, Low,
 use Rattle.id_window.specs.History.{FirstJudgement, History, Outcome, Refused, crosses, floor, found}
 use Rattle.service_tl.specs.declared.item.Item.{Item}
 use Rattle.service_tl.specs.declared.lists.Message.{Message}
-use Rattle.inbox.specs.declared.judged.Verdict.{Verdict}
-use Rattle.inbox.specs.declared.judged.Verdict.TheVariants.{Accepted, Again, Noticed}
-use Rattle.inbox.specs.declared.judged.Judgement.{Judgement}
+use Rattle.inbox.specs.Verdicts.{Verdict, Accepted, Again, Noticed, Judgement}
 use Rattle.containers.specs.Container.{begins_container}
 use Rattle.containers.specs.declared.fault.ContainerFault.{ContainerFault}
 use Rattle.inbox.specs.Kinds.{begins_acknowledgement, begins_call, container_in, item_told, kind_among, kind_of}

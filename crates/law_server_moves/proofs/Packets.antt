@@ -14,8 +14,7 @@ use Rattle.id_window.specs.declared.mark.Mark.{Mark}
 use Rattle.id_window.specs.Marks.{Marks, mark_of}
 use Rattle.id_window.specs.History.{FirstJudgement, History, Outcome, Refused, AcceptedContainer, AcceptedCall, AcceptedOther, EachOnce, floor, found, is_kept, noted, was_accepted}
 use Rattle.containers.specs.declared.fault.ContainerFault.{ContainerFault}
-use Rattle.inbox.specs.declared.judged.Verdict.{Verdict}
-use Rattle.inbox.specs.declared.judged.Verdict.TheVariants.{Accepted, Again, Noticed}
+use Rattle.inbox.specs.Verdicts.{Verdict, Accepted, Again, Noticed}
 use Rattle.inbox.specs.Kinds.{begins_acknowledgement, begins_call, container_in, item_told, kind_among, kind_of}
 use Rattle.service_tl.specs.Results.{constructor_of}
 use Rattle.inbox.specs.Refusals.{Way, InContainer, InEnvelope, by_envelope, by_number, is_row_of, is_valid_salt, refusal}

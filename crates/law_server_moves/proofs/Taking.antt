@@ -9,9 +9,7 @@ use Rattle.salt_line.specs.Rows.{Row}
 use Rattle.service_tl.specs.declared.lists.Message.{Message}
 use Rattle.id_window.specs.Marks.{mark_of}
 use Rattle.id_window.specs.History.{EachOnce, FirstJudgement, History, floor, is_kept}
-use Rattle.inbox.specs.declared.judged.Judgement.{Judgement}
-use Rattle.inbox.specs.declared.judged.Verdict.{Verdict}
-use Rattle.inbox.specs.declared.judged.Verdict.TheVariants.{Accepted, Again, Noticed}
+use Rattle.inbox.specs.Verdicts.{Judgement, Verdict, Accepted, Again, Noticed}
 use Rattle.containers.specs.Container.{begins_container}
 use Rattle.inbox.specs.Kinds.{item_told}
 use Rattle.inbox.specs.Refusals.{Way, InEnvelope}

@@ -13,8 +13,7 @@ use Rattle.containers.specs.Container.{IsContainer, IsInner, begins_container, c
 use Rattle.containers.specs.Parts.{parts_of}
 use Rattle.envelope.specs.declared.parts.Envelope.{Envelope}
 use Rattle.envelope.specs.Packet.{IsEnvelope}
-use Rattle.inbox.specs.declared.judged.Verdict.{Verdict}
-use Rattle.inbox.specs.declared.judged.Verdict.TheVariants.{Accepted, Again, Noticed}
+use Rattle.inbox.specs.Verdicts.{Verdict, Accepted, Again, Noticed}
 use Rattle.inbox.specs.Kinds.{inner_messages, parts_among}
 use Rattle.inbox.specs.Judging.{judge, unfolded}
 use Rattle.server_rules.specs.Answer.{message_in}

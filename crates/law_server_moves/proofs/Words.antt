@@ -16,9 +16,7 @@ use Rattle.service_tl.specs.Schema.{rpc_drop_answer}
 use Rattle.id_window.specs.declared.mark.Mark.{Mark}
 use Rattle.id_window.specs.declared.mark.Mark.TheVariants.{Noticed as MarkNoticed, Replied, Dropped}
 use Rattle.id_window.specs.History.{History}
-use Rattle.inbox.specs.declared.judged.Judgement.{Judgement}
-use Rattle.inbox.specs.declared.judged.Verdict.{Verdict}
-use Rattle.inbox.specs.declared.judged.Verdict.TheVariants.{Accepted, Again, Noticed}
+use Rattle.inbox.specs.Verdicts.{Judgement, Verdict, Accepted, Again, Noticed}
 use Rattle.inbox.specs.States.{state_byte}
 use Rattle.packing.specs.Numbering.{after_item, numbered}
 use Rattle.waits.specs.declared.job.Job.{Job}

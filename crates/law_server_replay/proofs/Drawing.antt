@@ -11,9 +11,7 @@ use Rattle.service_tl.specs.declared.item.Item.{Item}
 use Rattle.service_tl.specs.declared.item.Item.TheVariants.{DestroySession, DestroySessionOk, DestroySessionNone}
 use Rattle.service_tl.specs.declared.lists.Message.{Message}
 use Rattle.id_window.specs.History.{History}
-use Rattle.inbox.specs.declared.judged.Judgement.{Judgement}
-use Rattle.inbox.specs.declared.judged.Verdict.{Verdict}
-use Rattle.inbox.specs.declared.judged.Verdict.TheVariants.{Accepted, Again, Noticed}
+use Rattle.inbox.specs.Verdicts.{Judgement, Verdict, Accepted, Again, Noticed}
 use Rattle.inbox.specs.Refusals.{InEnvelope}
 use Rattle.inbox.specs.Judging.{judgements, session_after}
 use Rattle.packing.specs.Packing.{after_packets, packets_of}

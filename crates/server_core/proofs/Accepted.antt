@@ -20,9 +20,7 @@ use Rattle.id_window.specs.History.{EachOnce, FirstJudgement, History, Outcome, 
 use Rattle.id_window.specs.Marks.{Marks, given, mark_of}
 use Rattle.id_window.specs.declared.mark.Mark.{Mark}
 use Rattle.id_window.specs.declared.mark.Mark.TheVariants.{Waiting}
-use Rattle.inbox.specs.declared.judged.Judgement.{Judgement}
-use Rattle.inbox.specs.declared.judged.Verdict.{Verdict}
-use Rattle.inbox.specs.declared.judged.Verdict.TheVariants.{Accepted}
+use Rattle.inbox.specs.Verdicts.{Judgement, Verdict, Accepted}
 use Rattle.inbox.specs.Judging.{Session as Remembered, first_mark, inner_judgements, judge, judged_session, judgement_on, inner_session, judgements, outcome_of, session_after, unfolded}
 use Rattle.inbox.specs.Kinds.{inner_messages, item_told, kind_of, parts_among}
 use Rattle.waits.specs.declared.job.Job.{Job}

@@ -7,9 +7,7 @@ use Rattle.std.proofs.lemmas.List.Elements.{All-append, All-filter, All-nil, All
 use Rattle.service_tl.specs.declared.item.Item.{Item}
 use Rattle.service_tl.specs.declared.item.Item.TheVariants.{DestroySession, DestroySessionOk, DestroySessionNone, MsgsAck, NewSessionCreated}
 use Rattle.id_window.specs.History.{History}
-use Rattle.inbox.specs.declared.judged.Verdict.{Verdict}
-use Rattle.inbox.specs.declared.judged.Verdict.TheVariants.{Accepted, Again, Noticed}
-use Rattle.inbox.specs.declared.judged.Judgement.{Judgement}
+use Rattle.inbox.specs.Verdicts.{Verdict, Accepted, Again, Noticed, Judgement}
 use Rattle.inbox.specs.Judging.{judgements, session_after}
 use Rattle.inbox.specs.Refusals.{InEnvelope}
 use Rattle.waits.specs.declared.job.Job.{Job}

@@ -1,5 +1,5 @@
 -- The session of a packet is heard, and judges what the packet brought.
-use Rattle.std.proofs.Common.{◌≡◌, ◌≢◌, ◌∙◌, ◌+◌, ◌<◌, ◌≤◌, ℕ, zero, suc, Option, Some, None, List, [], ◌∷◌, length, get_or, ap, sym, subst, refl, arith, not}
+use Rattle.std.proofs.Common.{◌≡◌, ◌≢◌, ◌∙◌, ◌+◌, ◌<◌, ◌≤◌, ℕ, zero, suc, Option, Some, None, List, [], ◌∷◌, length, get_or, map, ap, sym, subst, refl, arith, not}
 use Rattle.std.specs.Prelude.{nat_lt}
 use Rattle.std.specs.List.{All, insert, position_or_len, remove}
 use Rattle.std.proofs.lemmas.Bool.{cond_both, ltb-true}
@@ -8,6 +8,7 @@ use Rattle.std.proofs.lemmas.List.Elements.{All-filter, All-tail}
 use Rattle.auth_keys.specs.declared.ring.RingKey.{RingKey}
 use Rattle.draws.specs.Draws.{draw_after}
 use Rattle.inbox.specs.declared.judged.Judgement.{Judgement}
+use Rattle.inbox.specs.Verdicts.{bare_judgement}
 use Rattle.waits.specs.Jobs.{Queue, is_of}
 use Rattle.server_rules.specs.Server.{Binding, Name, Server as Rules, Session, session_named, sessions_max}
 use Rattle.server_rules.specs.Event.{Envelope, Setting, State}
@@ -32,7 +33,7 @@ use Rattle.server_core.proofs.Settled.{blocked-left}
 pub judged-so : {S : Type 0} (setting : Setting S) (envelope : Envelope) (kept : List SessionState) (standing after : SessionState) (queue later : Queue) (bound bindings : List Binding) (draw : S)
     (judged : List Judgement) (among : Among S) → IsHeard setting.now kept standing queue bound draw among
     → Stands setting.now after (record among.speaker.session { history = history_by setting envelope among.speaker.session })
-    → later ≡ queue → bindings ≡ bound → judged ≡ judged_of setting envelope among.speaker.session → IsAlone (name_in envelope) among
+    → later ≡ queue → bindings ≡ bound → judged ≡ map bare_judgement (judged_of setting envelope among.speaker.session) → IsAlone (name_in envelope) among
     → IsOrderlySpeaker (name_in envelope) among.speaker → HasJudged setting envelope kept after later bindings draw judged among
 judged-so setting envelope kept standing after queue later bound bindings draw judged among heard stands same_jobs same_bindings is alone order =
     record {

@@ -9,8 +9,7 @@ use Rattle.service_tl.specs.declared.item.Item.TheVariants.{RpcDropAnswer, GetFu
 use Rattle.service_tl.specs.Schema.{rpc_drop_answer}
 use Rattle.id_window.specs.declared.mark.Mark.{Mark}
 use Rattle.id_window.specs.declared.mark.Mark.TheVariants.{Noticed as MarkNoticed, Service, Container, Waiting, Replied, Acked, Dropped}
-use Rattle.inbox.specs.declared.judged.Verdict.{Verdict}
-use Rattle.inbox.specs.declared.judged.Verdict.TheVariants.{Accepted, Again, Noticed}
+use Rattle.inbox.specs.Verdicts.{Verdict, Accepted, Again, Noticed}
 use Rattle.waits.specs.declared.job.Job.{Job}
 use Rattle.waits.specs.declared.job.Unfinished.{Unfinished}
 use Rattle.waits.specs.Jobs.{Queue, accepted, first_job, is_call, is_of, without_first}

@@ -4,9 +4,7 @@ use Rattle.std.specs.Prelude.{◌==◌}
 use Rattle.std.proofs.lemmas.Bool.{and_from, cond_both, eq-eqb}
 use Rattle.service_tl.specs.declared.lists.Message.{Message}
 use Rattle.id_window.specs.declared.mark.Mark.{Mark}
-use Rattle.inbox.specs.declared.judged.Judgement.{Judgement}
-use Rattle.inbox.specs.declared.judged.Verdict.{Verdict}
-use Rattle.inbox.specs.declared.judged.Verdict.TheVariants.{Accepted, Again, Noticed}
+use Rattle.inbox.specs.Verdicts.{Judgement, Verdict, Accepted, Again, Noticed, bare, bare_judgement}
 use Rattle.inbox.specs.Kinds.{inner_messages, item_told, kind_of}
 use Rattle.inbox.specs.Judging.{Session, inner_judgements, is_container, is_uncontained, judge, judged_session, judgements, unfolded, verdict_again, verdict_by}
 use Rattle.inbox.specs.Refusals.{Way, InContainer, refusal}
@@ -18,16 +16,16 @@ use Rattle.server_core.specs.Room.{dues_in}
 use Rattle.server_core.specs.SettlingAll.{AreDue, are_numbered}
 
 due-by : (mark : Option Mark) (code : Option ℕ) (message : Message)
-    → due_by message.seq (verdict_by mark code (kind_of message) (item_told message.body)) (needed_of message)
+    → due_by message.seq (bare (verdict_by mark code (kind_of message) (item_told message.body))) (needed_of message)
     ≡ due_of message.number message.seq (verdict_by mark code (kind_of message) (item_told message.body)) message.body
 due-by (Some mark) code message =
-    let P : Verdict → Type 0 = λ verdict. due_by message.seq verdict (needed_of message) ≡ due_of message.number message.seq verdict message.body in
+    let P : Verdict → Type 0 = λ verdict. due_by message.seq (bare verdict) (needed_of message) ≡ due_of message.number message.seq verdict message.body in
     cond_both (is_container (kind_of message) && is_uncontained mark) (Noticed 19) (Again mark) P (λ is. refl) (λ is. refl)
 due-by None (Some code) message = refl
 due-by None None message = refl
 
 due-judged : (way : Way) (session : Session) (message : Message)
-    → due_by message.seq (judge way session message) (needed_of message) ≡ due_of message.number message.seq (judge way session message) message.body
+    → due_by message.seq (bare (judge way session message)) (needed_of message) ≡ due_of message.number message.seq (judge way session message) message.body
 due-judged way session message =
     due-by (found message.number session.history session.marks) (refusal way session.history message) message
 
@@ -48,7 +46,7 @@ new-due way session message = (due-judged way session message, unfolded-due (jud
 
 -- each has the number of its message
 
-inner-numbered : (session : Session) (messages : List Message) → are_numbered (inner_judgements session messages) (map due_needed messages) ≡ true
+inner-numbered : (session : Session) (messages : List Message) → are_numbered (map bare_judgement (inner_judgements session messages)) (map due_needed messages) ≡ true
 inner-numbered session [] = refl
 inner-numbered session (message ∷ messages) =
     and_from (message.number == message.number) _ (eq-eqb message.number message.number refl) (inner-numbered (judged_session InContainer session message) messages)
@@ -58,13 +56,13 @@ none-numbered [] = refl
 none-numbered (due ∷ dues) = refl
 
 unfolded-numbered : (verdict : Verdict) (session : Session) (message : Message)
-    → are_numbered (inner_judgements session (unfolded verdict message)) (map due_needed (inner_messages message)) ≡ true
+    → are_numbered (map bare_judgement (inner_judgements session (unfolded verdict message))) (map due_needed (inner_messages message)) ≡ true
 unfolded-numbered (Accepted item) session message = inner-numbered session (inner_messages message)
 unfolded-numbered (Again mark) session message = none-numbered (map due_needed (inner_messages message))
 unfolded-numbered (Noticed code) session message = none-numbered (map due_needed (inner_messages message))
 
 new-numbers : (way : Way) (session : Session) (message : Message)
-    → are_numbered (judgements way session message) (map due_needed (message ∷ inner_messages message)) ≡ true
+    → are_numbered (map bare_judgement (judgements way session message)) (map due_needed (message ∷ inner_messages message)) ≡ true
 new-numbers way session message =
     and_from (message.number == message.number) _ (eq-eqb message.number message.number refl)
     (unfolded-numbered (judge way session message) (judged_session way session message) message)
@@ -87,9 +85,9 @@ again-due after message mark =
     cond_both (is_container (kind_of message) && is_uncontained mark) (Noticed 19) (Again mark) P (λ is. (refl, tt)) (λ is. (refl, tt))
 
 again-numbers : (after : Session) (message : Message) (mark : Mark)
-    → are_numbered (judged-with after message (verdict_again (kind_of message) mark)) (alone message) ≡ true
+    → are_numbered (map bare_judgement (judged-with after message (verdict_again (kind_of message) mark))) (alone message) ≡ true
 again-numbers after message mark =
-    let P : Verdict → Type 0 = λ verdict. are_numbered (judged-with after message verdict) (alone message) ≡ true in
+    let P : Verdict → Type 0 = λ verdict. are_numbered (map bare_judgement (judged-with after message verdict)) (alone message) ≡ true in
     let is = and_from (message.number == message.number) true (eq-eqb message.number message.number refl) refl in
     cond_both (is_container (kind_of message) && is_uncontained mark) (Noticed 19) (Again mark) P (λ so. is) (λ so. is)
 
@@ -116,13 +114,13 @@ are-due way session message = due-by_mark way session message (found message.num
 -- and each has the number of its message
 
 numbers-by_mark : (way : Way) (session : Session) (message : Message) (mark : Option Mark) → found message.number session.history session.marks ≡ mark
-    → are_numbered (judgements way session message) (dues_in mark message) ≡ true
+    → are_numbered (map bare_judgement (judgements way session message)) (dues_in mark message) ≡ true
 numbers-by_mark way session message None is = new-numbers way session message
 numbers-by_mark way session message (Some mark) is =
     let after = judged_session way session message in
-    let P : Verdict → Type 0 = λ verdict. are_numbered (judged-with after message verdict) (alone message) ≡ true in
+    let P : Verdict → Type 0 = λ verdict. are_numbered (map bare_judgement (judged-with after message verdict)) (alone message) ≡ true in
     subst P (sym (kept-verdict way session message mark is)) (again-numbers after message mark)
 
 pub same-numbers : (way : Way) (session : Session) (message : Message)
-    → are_numbered (judgements way session message) (dues_in (found message.number session.history session.marks) message) ≡ true
+    → are_numbered (map bare_judgement (judgements way session message)) (dues_in (found message.number session.history session.marks) message) ≡ true
 same-numbers way session message = numbers-by_mark way session message (found message.number session.history session.marks) refl

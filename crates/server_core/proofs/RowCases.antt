@@ -2,8 +2,8 @@
 use Rattle.std.proofs.Common.{◌≡◌, ℕ, List, refl, subst, sym}
 use Rattle.service_tl.specs.declared.item.Item.{Item}
 use Rattle.service_tl.specs.declared.item.Item.TheVariants as item
-use Rattle.inbox.specs.declared.judged.Verdict.{Verdict}
-use Rattle.inbox.specs.declared.judged.Verdict.TheVariants as verdict
+use Rattle.inbox.specs.Verdicts.{Verdict}
+use Rattle.inbox.specs.Verdicts as verdict
 use Rattle.server_rules.specs.Event.{Setting}
 use Rattle.server_rules.specs.Rows.{owes}
 use Rattle.server_dispatch.specs.declared.action.Action.{Action}

@@ -5,8 +5,7 @@ use Rattle.std.specs.List.{filter}
 use Rattle.std.proofs.lemmas.Bool.{cases_Bool, cond_both, cond-true, cond-false}
 use Rattle.service_tl.specs.declared.item.Item.TheVariants.{DestroySession}
 use Rattle.id_window.specs.History.{History}
-use Rattle.inbox.specs.declared.judged.Verdict.{Verdict}
-use Rattle.inbox.specs.declared.judged.Verdict.TheVariants.{Accepted, Again, Noticed}
+use Rattle.inbox.specs.Verdicts.{Verdict, Accepted, Again, Noticed}
 use Rattle.waits.specs.declared.job.Unfinished.{Unfinished}
 use Rattle.waits.specs.Jobs.{Queue, is_of}
 use Rattle.server_rules.specs.Server.{Binding, Name, session_named}

@@ -1,17 +1,16 @@
 -- A session that has judged a packet answers it.
-use Rattle.std.proofs.Common.{◌≡◌, ◌≢◌, ◌∙◌, ◌+◌, ◌≤◌, ℕ, zero, suc, Bool, true, false, Option, Some, None, List, [], ◌∷◌, length, ap, sym, subst, refl, arith}
+use Rattle.std.proofs.Common.{◌≡◌, ◌≢◌, ◌∙◌, ◌+◌, ◌≤◌, ℕ, zero, suc, Bool, true, false, Option, Some, None, List, [], ◌∷◌, length, map, ap, sym, subst, refl, arith}
 use Rattle.std.specs.Prelude.{fold, is_some}
 use Rattle.std.specs.List.{All, zip}
 use Rattle.std.proofs.lemmas.Bool.{cond_both}
-use Rattle.std.proofs.lemmas.List.{length-append}
+use Rattle.std.proofs.lemmas.List.{length-append, length-map}
 use Rattle.std.proofs.lemmas.List.Elements.{All-push}
 use Rattle.auth_keys.specs.declared.ring.RingKey.{RingKey}
 use Rattle.service_tl.specs.declared.item.Item.TheVariants.{DestroySession}
 use Rattle.service_tl.specs.declared.lists.Message.{Message}
 use Rattle.id_window.specs.History.{History}
-use Rattle.inbox.specs.declared.judged.Judgement.{Judgement}
-use Rattle.inbox.specs.declared.judged.Verdict.{Verdict}
-use Rattle.inbox.specs.declared.judged.Verdict.TheVariants.{Accepted, Again, Noticed}
+use Rattle.inbox.specs.declared.judged.Judgement.{Judgement as BareJudgement}
+use Rattle.inbox.specs.Verdicts.{Judgement, Verdict, Accepted, Again, Noticed, bare_judgement}
 use Rattle.inbox.specs.Judging.{judgements, session_after}
 use Rattle.inbox.specs.Refusals.{Way}
 use Rattle.waits.specs.declared.job.Job.{Job}
@@ -48,6 +47,26 @@ due-few [] bodies dues are = omega arith
 due-few (judgement ∷ judged) [] dues are = absurd are
 due-few (judgement ∷ judged) (body ∷ bodies) [] are = absurd are
 due-few (judgement ∷ judged) (body ∷ bodies) (due ∷ dues) are = let rest = due-few judged bodies dues are.1 in omega arith
+
+-- What a session judged, as the definitions tell it, and what the messages need. It is a value of its own, so that what these
+-- judgements are is looked at only where that is asked.
+pub record Told (judged : List BareJudgement) (bodies : List (List ℕ)) (dues : List Due) (all : List Judgement) : Type 0 where
+  pub told : List Judgement
+  pub same : told ≡ all
+  pub are : judged ≡ map bare_judgement told
+  pub due : AreDue told bodies dues
+
+pub told-so : (judged : List BareJudgement) (bodies : List (List ℕ)) (dues : List Due) (all : List Judgement) → judged ≡ map bare_judgement all → AreDue all bodies dues
+    → Told judged bodies dues all
+told-so judged bodies dues all are due = record { told = all; same = refl; are = are; due = due }
+
+-- each of them has something that its message needs
+pub told-few : (judged : List BareJudgement) (bodies : List (List ℕ)) (dues : List Due) (told : List Judgement) → judged ≡ map bare_judgement told → AreDue told bodies dues
+    → (length judged ≡ length told) × (length judged ≤ length dues)
+told-few judged bodies dues told are due =
+    let counted : length judged ≡ length told = ap (λ (judged : List BareJudgement). length judged) are ∙ length-map told bare_judgement in
+    let few = due-few told bodies dues due in
+    (counted, omega (arith, counted, few))
 
 -- ---- what it owes first leaves its jobs alone
 
@@ -100,7 +119,7 @@ opened-settling {S} keeps open_so tells setting envelope limit judged among alon
 
 -- as it begins to owe
 pub begins-taking : {S : Type 0} (setting : Setting S) (envelope : Envelope) (kept : List SessionState) (standing : SessionState) (turn : Turn) (queue : Queue) (bound : List Binding) (draw : S)
-    (judged : List Judgement) (among : Among S) → HasJudged setting envelope kept standing queue bound draw judged among → turn.owing.messages ≡ [] → turn.entries.entries ≡ []
+    (judged : List BareJudgement) (among : Among S) → HasJudged setting envelope kept standing queue bound draw judged among → turn.owing.messages ≡ [] → turn.entries.entries ≡ []
     → Speaks setting.now standing turn queue bound draw (remembers_among (history_by setting envelope among.speaker.session) among).speaker
 begins-taking setting envelope kept standing turn queue bound draw judged among has none nothing =
     let name = name_of among.speaker.session in

@@ -5,7 +5,8 @@ use Rattle.envelope.specs.declared.parts.Dir.TheVariants.{Up}
 use Rattle.envelope.specs.declared.parts.Envelope.{Envelope as Sealed}
 use Rattle.envelope.specs.Opening.{IsRefused, Opens}
 use Rattle.envelope.specs.Packet.{Lock}
-use Rattle.inbox.specs.declared.judged.Judgement.{Judgement}
+use Rattle.inbox.specs.declared.judged.Judgement.{Judgement as BareJudgement}
+use Rattle.inbox.specs.Verdicts.{Judgement, bare_judgement}
 use Rattle.inbox.specs.declared.outer.Outer.{Outer}
 use Rattle.inbox.specs.Judging.{judgements}
 use Rattle.waits.specs.Jobs.{Queue}
@@ -79,15 +80,15 @@ bodies_of setting envelope session = map (λ one. one.body) (messages_judged (wa
 
 -- What is kept is that of a session among the others that was heard and remembers what it judged, and these are its
 -- judgements.
-pub record HasJudged {S : Type 0} (setting : Setting S) (envelope : Envelope) (kept : List SessionState) (standing : SessionState) (queue : Queue) (bound : List Binding) (draw : S) (judged : List Judgement) (among : Among S) : Type 0 where
+pub record HasJudged {S : Type 0} (setting : Setting S) (envelope : Envelope) (kept : List SessionState) (standing : SessionState) (queue : Queue) (bound : List Binding) (draw : S) (judged : List BareJudgement) (among : Among S) : Type 0 where
   pub heard : IsHeard setting.now kept standing queue bound draw (remembers_among (history_by setting envelope among.speaker.session) among)
-  pub are : judged ≡ judged_of setting envelope among.speaker.session
+  pub are : judged ≡ map bare_judgement (judged_of setting envelope among.speaker.session)
   pub alone : IsAlone (name_in envelope) among
   pub order : IsOrderlySpeaker (name_in envelope) among.speaker
 
 -- The room that was taken is that for what these judgements need, each that of its message, and for so many jobs that fail.
-pub record Fits {S : Type 0} (setting : Setting S) (envelope : Envelope) (judged : List Judgement) (room : PacketRoom) (among : Among S) : Type 0 where
-  pub due : AreDue judged (bodies_of setting envelope among.speaker.session) room.dues.items
+pub record Fits {S : Type 0} (setting : Setting S) (envelope : Envelope) (judged : List BareJudgement) (room : PacketRoom) (among : Among S) : Type 0 where
+  pub due : AreDue (judged_of setting envelope among.speaker.session) (bodies_of setting envelope among.speaker.session) room.dues.items
   pub numbered : are_numbered judged room.dues.items ≡ true
   pub few : blocked_of (name_in envelope) among.speaker.jobs + length judged ≤ room.limit
 

@@ -1,7 +1,7 @@
 -- A judgement that is settled in a session among the others, as they are kept.
 use Rattle.std.specs.Prelude.{ℕ, List}
 use Rattle.id_window.specs.History.{History}
-use Rattle.inbox.specs.declared.judged.Verdict.{Verdict}
+use Rattle.inbox.specs.Verdicts.{Verdict}
 use Rattle.waits.specs.Jobs.{Queue}
 use Rattle.server_rules.specs.Server.{Binding, Name}
 use Rattle.server_rules.specs.Event.{Setting}
@@ -20,7 +20,7 @@ pub record SpeaksAmong {S : Type 0} (now : ℕ) (kept : List SessionState) (stan
   pub others : AreKept now kept among.others
   pub speaks : Speaks now standing turn queue bound draw among.speaker
 
--- what is kept of them as one value
+-- the same of an `AmongOthers`
 abbrev pub IsAmong : {S : Type 0} → ℕ → AmongOthers → S → Among S → Type 0
 IsAmong now kept draw among =
     SpeaksAmong now kept.others kept.speaking.standing kept.speaking.turn kept.speaking.jobs.jobs kept.speaking.bindings.bindings draw among

@@ -3,7 +3,8 @@ use Rattle.std.specs.Prelude.{◌≡◌, ◌≤◌, ◌==◌, ◌+◌, ℕ, Bool
 use Rattle.std.specs.List.{list_all, list_any, zip}
 use Rattle.id_window.specs.History.{History}
 use Rattle.outbox.specs.declared.kept.Kept.{Kept}
-use Rattle.inbox.specs.declared.judged.Judgement.{Judgement}
+use Rattle.inbox.specs.declared.judged.Judgement.{Judgement as BareJudgement}
+use Rattle.inbox.specs.Verdicts.{Judgement, bare_judgement}
 use Rattle.server_output.specs.Items.{bad_salt_bytes}
 use Rattle.server_rules.specs.Server.{Name}
 use Rattle.server_rules.specs.Event.{Setting}
@@ -17,7 +18,7 @@ use Rattle.server_core.specs.Failures.{blocked_of}
 -- ---- what judged messages need
 
 -- what a judged message needs, where this is what it needs accepted
-abbrev pub due_judged : Judgement → Due → Action
+abbrev pub due_judged : BareJudgement → Due → Action
 due_judged judgement due = due_by judgement.seq judgement.verdict due.action
 
 -- Judged so, the messages of these bodies need this, where these are what they need accepted. There may be more that weren't
@@ -27,18 +28,18 @@ AreDue [] bodies dues = ⊤
 AreDue (judgement ∷ judged) [] dues = ⊥
 AreDue (judgement ∷ judged) (body ∷ bodies) [] = ⊥
 AreDue (judgement ∷ judged) (body ∷ bodies) (due ∷ dues) =
-    (due_judged judgement due ≡ due_of judgement.number judgement.seq judgement.verdict body) × AreDue judged bodies dues
+    (due_judged (bare_judgement judgement) due ≡ due_of judgement.number judgement.seq judgement.verdict body) × AreDue judged bodies dues
 
 -- the bytes of bodies of the longer one of what a message needs, and of what it needs where it isn't accepted
 abbrev pub due_most : Due → ℕ
 due_most due = max bad_salt_bytes (due_bytes due.action)
 
 -- the judgements are on the messages that need this, one after the other
-abbrev pub are_numbered : List Judgement → List Due → Bool
+abbrev pub are_numbered : List BareJudgement → List Due → Bool
 are_numbered judged dues = list_all (λ one. one.0.number == one.1.number) (zip judged dues)
 
 -- the kept replies that the judgements call for,
-abbrev pub calls_of : List Judgement → List Due → Kept → Bool
+abbrev pub calls_of : List BareJudgement → List Due → Kept → Bool
 calls_of judged dues kept = list_any (λ one. due_calls one.0.number (due_judged one.0 one.1) kept) (zip judged dues)
 
 -- and those that the messages may call for before they are judged

@@ -3,7 +3,7 @@
 ghost use Rattle.std.specs.Prelude.{◌≡◌, ◌∷◌, ℕ, List, Some, All, Contains, false, length, true};
 ghost use Rattle.msg_ids.specs.Counters.{is_odd};
 ghost use Rattle.id_window.specs.History.{History};
-ghost use Rattle.inbox.specs.declared.judged.Judgement.{Judgement};
+ghost use Rattle.inbox.specs.Verdicts.{Judgement};
 ghost use Rattle.regs_service.specs.Served.{Step};
 ghost use Rattle.waits.specs.Jobs.{Queue, ready_job};
 ghost use Rattle.waits.specs.declared.job.Job.{Job};

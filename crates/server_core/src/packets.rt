@@ -48,7 +48,7 @@ impl<S: Seal> Server<S> {
     ///
     /// # Errors
     ///
-    /// `Memory`, and then the server is as it was.
+    /// `Memory`, and then the server is as it was. What was drawn is not given back.
     pub fn on_packet<D: Draw>(
         &mut self,
         alloc: Global,

@@ -1,10 +1,11 @@
 //! The room that a packet's event takes before anything is judged.
 
-ghost use Rattle.std.specs.Prelude.{◌≡◌, ◌≤◌, ◌*◌, ◌+◌, ◌∷◌, ℕ, [], IfOk, OnErr, OnOk, length, max, vec_len};
+ghost use Rattle.std.specs.Prelude.{◌≡◌, ◌≤◌, ◌*◌, ◌+◌, ◌∷◌, ℕ, [], IfOk, OnErr, OnOk, length, map, max, vec_len};
 ghost use Rattle.waits.specs.Jobs.{Queue, blocked_count_of};
 ghost use Rattle.inbox.specs.Inbox.{message_in};
 ghost use Rattle.inbox.specs.Judging.{judgements, session_after};
 ghost use Rattle.inbox.specs.Refusals.{InEnvelope};
+ghost use Rattle.inbox.specs.Verdicts.{bare_judgement};
 ghost use Rattle.law_server.specs.Order.{IsOrderly};
 ghost use Rattle.server_rules.specs.Server.{Session, mark_in, remembered};
 ghost use Rattle.server_dispatch.specs.declared.action.Action.TheVariants.{Nothing};
@@ -138,7 +139,7 @@ pub(crate) fn judges_in_room(
         → IfOk result (λ both. both.0.dues.items ≡ dues_in (mark_in session outer.now.number) (message_in outer.now)) }
     ensures limit { IfOk result (λ both. both.0.limit ≡ blocked_count_of (key_of standing.old) (number_of standing.old) jobs.old.jobs + length both.0.dues.items) }
     ensures judged { (session : Session) → Stands now standing.old session
-        → IfOk result (λ both. both.1 ≡ judgements (InEnvelope now session.salts outer.now.salt) (remembered session) (message_in outer.now)) }
+        → IfOk result (λ both. both.1 ≡ map bare_judgement (judgements (InEnvelope now session.salts outer.now.salt) (remembered session) (message_in outer.now))) }
     ensures stands { (session : Session) (queue : Queue) → Stands now standing.old session
         → IsOrderly session.history session.replies session.counters.last queue
         → OnOk result (Stands now standing.new (record session { history = (session_after (InEnvelope now session.salts outer.now.salt) (remembered session) (message_in outer.now)).history })) }

@@ -3,7 +3,7 @@
 ghost use Rattle.std.specs.Prelude.{◌≡◌, ◌≤◌, ◌<◌, ◌+◌, ◌*◌, ℕ, Bool, List};
 ghost use Rattle.id_window.specs.History.{History};
 ghost use Rattle.outbox.specs.declared.kept.Kept.{Kept};
-ghost use Rattle.inbox.specs.declared.judged.Verdict.{Verdict};
+ghost use Rattle.inbox.specs.Verdicts.{Verdict};
 ghost use Rattle.server_rules.specs.Server.{Name};
 ghost use Rattle.server_dispatch.specs.Contents.{short_bytes_max};
 ghost use Rattle.server_output.specs.Items.{result_bytes};

@@ -1,9 +1,10 @@
 //! All judgements of a packet are settled.
 
-ghost use Rattle.std.specs.Prelude.{◌≡◌, ◌≤◌, ◌+◌, ◌*◌, ℕ, Bool, List, length};
+ghost use Rattle.std.specs.Prelude.{◌≡◌, ◌≤◌, ◌+◌, ◌*◌, ℕ, Bool, List, length, map};
 ghost use Rattle.std.specs.List.{sum_by};
 ghost use Rattle.id_window.specs.History.{History};
 ghost use Rattle.outbox.specs.declared.kept.Kept.{Kept};
+ghost use Rattle.inbox.specs.Verdicts.{Judgement as Told, bare_judgement};
 ghost use Rattle.server_rules.specs.Server.{Name};
 ghost use Rattle.server_dispatch.specs.Contents.{short_bytes_max};
 ghost use Rattle.server_output.specs.Items.{result_bytes};
@@ -43,10 +44,10 @@ impl AmongOthers {
         requires job_room { length judged.now ≤ self.old.speaking.jobs.room }
         requires binding_room { length judged.now ≤ self.old.speaking.bindings.room }
         requires at { IsAt now self.old.speaking.standing }
-        ensures settled { (keys : Keys) (name : Name) (past : History) (bodies : List (List ℕ)) (among : Among D)
-            → AreOf ring.now keys → AreDue judged.now bodies dues.items → AreSettling name past limit judged.now among
+        ensures settled { (keys : Keys) (name : Name) (past : History) (told : List Told) (bodies : List (List ℕ)) (among : Among D)
+            → AreOf ring.now keys → judged.now ≡ map bare_judgement told → AreDue told bodies dues.items → AreSettling name past limit told among
             → IsAmong now self.old draw.old among
-            → IsAmong now self.new draw.new (all_settled (setting_of now D.step keys) judged.now bodies among) }
+            → IsAmong now self.new draw.new (all_settled (setting_of now D.step keys) told bodies among) }
         ensures uses { (called : Kept → Bool) → CallsFor (calls_of judged.now dues.items) called
             → Uses called now (2 * length dues.items + limit) (sum_by due_most dues.items + limit * result_bytes short_bytes_max) (length dues.items + limit) (2 * length dues.items + limit) self.old.speaking.standing self.old.speaking.turn self.new.speaking.standing self.new.speaking.turn }
         ensures left { AreLeft self.old.others self.new.others }

@@ -115,7 +115,7 @@ impl<S: Seal> Server<S> {
     /// Runs the ready job of this place among the ready ones, from 0 in order of acceptance: the service runs its request, the
     /// session that asked keeps and sends the reply, and each job that fails by that is answered. The place has to be less
     /// than `ready()`. In a server that is in order the first entry is the run (`laws::runs_come_first`), and the session of
-    /// each job is there; without it nothing but the time changes.
+    /// each job is there.
     ///
     /// # Errors
     ///

@@ -2,8 +2,8 @@
 use Rattle.std.proofs.Common.{◌≡◌, ℕ, Bool, true, List, [], ◌∷◌, refl}
 use Rattle.service_tl.specs.declared.item.Item.{Item}
 use Rattle.service_tl.specs.declared.item.Item.TheVariants as item
-use Rattle.inbox.specs.declared.judged.Verdict.{Verdict}
-use Rattle.inbox.specs.declared.judged.Verdict.TheVariants as verdict
+use Rattle.inbox.specs.Verdicts.{Verdict}
+use Rattle.inbox.specs.Verdicts as verdict
 use Rattle.inbox.specs.Judging.{is_accepted}
 use Rattle.server_rules.specs.Event.{Setting, Speaker}
 use Rattle.server_rules.specs.Rows.{accepts, came_again, notices, owes}

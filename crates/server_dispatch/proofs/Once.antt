@@ -1,14 +1,16 @@
 -- Numbers of a list, each once.
 use Rattle.std.proofs.Common.{◌≡◌, ◌∙◌, ◌+◌, ◌<◌, ◌≤◌, ℕ, Bool, true, false, List, [], ◌∷◌, ◌++◌, if◌then◌else◌, ap, sym, refl, inl, inr, arith, take, length, get_or, map, fold, append-nil, append_assoc}
-use Rattle.std.specs.Prelude.{not, ◌==◌}
+use Rattle.std.specs.Prelude.{not, ◌&&◌, ◌==◌}
 use Rattle.std.specs.List.{AllByRecursion, filter, list_any}
 use Rattle.std.proofs.lemmas.Bool.{cases_Bool, eqb-true, eq-eqb, ne_eqb, false≢true}
 use Rattle.std.proofs.lemmas.List.{take_more}
 use Rattle.std.proofs.lemmas.List.Elements.{filter-append}
-use Rattle.inbox.specs.declared.judged.Judgement.{Judgement}
+use Rattle.inbox.specs.declared.judged.Judgement.{Judgement as BareJudgement}
+use Rattle.inbox.specs.Verdicts.{Verdict, Accepted, Again, Noticed, Judgement, bare, bare_judgement}
 use Rattle.server_rules.specs.Calls.{each_once}
-use Rattle.server_rules.specs.Rows.{acks_of}
-use Rattle.server_dispatch.specs.Acks.{is_acked, noted}
+use Rattle.msg_ids.specs.Counters.{is_odd}
+use Rattle.server_rules.specs.Rows.{acks_of, is_verdict_acked}
+use Rattle.server_dispatch.specs.Acks.{is_acked, is_bare_acked, noted}
 
 abbrev pub among : ℕ → List ℕ → Bool
 among number numbers = list_any (λ other. other == number) numbers
@@ -82,7 +84,7 @@ passed-there numbers once place lt is there =
 -- what is acknowledged, one after the other
 
 -- a further number stands there once
-once-noted : (numbers : List ℕ) (one : Judgement) → is_acked one ≡ true → noted (each_once numbers) one ≡ each_once (numbers ++ one.number ∷ [])
+once-noted : (numbers : List ℕ) (one : BareJudgement) → is_acked one ≡ true → noted (each_once numbers) one ≡ each_once (numbers ++ one.number ∷ [])
 once-noted numbers one acked =
     let more = once-more numbers one.number in
     elim (cases_Bool (among one.number (each_once numbers))) [
@@ -90,7 +92,7 @@ once-noted numbers one acked =
       | inr absent ↦ rw (acked, absent) (sym (more ∙ (rw absent refl)))
     ]
 
-noted-all : (numbers : List ℕ) (judged : List Judgement)
+noted-all : (numbers : List ℕ) (judged : List BareJudgement)
     → fold noted (each_once numbers) judged ≡ each_once (numbers ++ map (λ judgement. judgement.number) (filter is_acked judged))
 noted-all numbers [] = ap each_once (sym (append-nil numbers))
 noted-all numbers (one ∷ judged) =
@@ -102,9 +104,26 @@ noted-all numbers (one ∷ judged) =
       | inr silent ↦ rw silent (noted-all numbers judged)
     ]
 
-pub noted-are : (judged : List Judgement) → fold noted [] judged ≡ acks_of judged
+-- and those that the definitions say
+
+acked-so : (verdict : Verdict) → is_bare_acked (bare verdict) ≡ is_verdict_acked verdict
+acked-so (Accepted item) = refl
+acked-so (Again mark) = refl
+acked-so (Noticed code) = refl
+
+acked-numbers : (judged : List Judgement) → map (λ judgement. judgement.number) (filter is_acked (map bare_judgement judged))
+    ≡ map (λ judgement. judgement.number) (filter (λ judgement. is_odd judgement.seq && is_verdict_acked judgement.verdict) judged)
 unfolding is_acked
-noted-are judged = noted-all [] judged
+acked-numbers [] = refl
+acked-numbers (one ∷ judged) =
+    let same : (is_odd one.seq && is_bare_acked (bare one.verdict)) ≡ (is_odd one.seq && is_verdict_acked one.verdict) = ap (λ (acked : Bool). is_odd one.seq && acked) (acked-so one.verdict) in
+    elim (cases_Bool (is_odd one.seq && is_verdict_acked one.verdict)) [
+      | inl acked ↦ rw (same, acked) (ap (λ (l : List ℕ). one.number ∷ l) (acked-numbers judged))
+      | inr silent ↦ rw (same, silent) (acked-numbers judged)
+    ]
+
+pub noted-are : (judged : List Judgement) → fold noted [] (map bare_judgement judged) ≡ acks_of judged
+noted-are judged = noted-all [] (map bare_judgement judged) ∙ ap each_once (acked-numbers judged)
 
 -- a number that is above all isn't among them
 pub above_absent : (number greatest : ℕ) (numbers : List ℕ) → greatest < number → AllByRecursion (λ one. one ≤ greatest) numbers → among number numbers ≡ false

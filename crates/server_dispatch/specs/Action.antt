@@ -5,8 +5,9 @@ use Rattle.service_tl.specs.declared.item.Item.TheVariants.{RpcDropAnswer, GetFu
 use Rattle.service_tl.specs.declared.lists.Message.{Message}
 use Rattle.salt_line.specs.Rows.{future_rows_max}
 use Rattle.outbox.specs.declared.kept.Kept.{Kept}
-use Rattle.inbox.specs.declared.judged.Verdict.{Verdict}
-use Rattle.inbox.specs.declared.judged.Verdict.TheVariants.{Accepted, Again, Noticed}
+use Rattle.inbox.specs.declared.judged.Verdict.{Verdict as BareVerdict}
+use Rattle.inbox.specs.declared.judged.Verdict.TheVariants as without
+use Rattle.inbox.specs.Verdicts.{Verdict, Accepted, Again, Noticed}
 use Rattle.inbox.specs.Kinds.{item_told}
 use Rattle.server_rules.specs.Calls.{each_once}
 use Rattle.server_dispatch.specs.Contents.{short_bytes_max}
@@ -70,10 +71,10 @@ abbrev pub due_needed : Message → Due
 due_needed message = record { number = message.number; action = needed_of message }
 
 -- what it needs once it is judged so, where this is what it needs accepted
-abbrev pub due_by : ℕ → Verdict → Action → Action
-due_by seq (Noticed code) due = Notice seq code
-due_by seq (Again mark) due = CameAgain seq
-due_by seq (Accepted item) due = due
+abbrev pub due_by : ℕ → BareVerdict → Action → Action
+due_by seq (without.Noticed code) due = Notice seq code
+due_by seq (without.Again mark) due = CameAgain seq
+due_by seq without.Accepted due = due
 
 -- its list, where it asks by one, is no longer than what one message tells
 abbrev pub IsItemShort : Item → Type 0

@@ -2,7 +2,7 @@
 use Rattle.std.specs.Prelude.{◌≡◌, ℕ, ◌∷◌, List, min, if◌then◌else◌, ⊤}
 use Rattle.salt_line.specs.Rows.{future_rows_max}
 use Rattle.service_tl.specs.declared.item.Item.TheVariants.{Pong}
-use Rattle.inbox.specs.declared.judged.Verdict.{Verdict}
+use Rattle.inbox.specs.Verdicts.{Verdict}
 use Rattle.inbox.specs.Judging.{is_accepted}
 use Rattle.server_rules.specs.Calls.{accepts_call, binds, drops_answer, each_once}
 use Rattle.server_rules.specs.Event.{Setting, Speaker}
@@ -17,7 +17,7 @@ use Rattle.server_dispatch.specs.declared.action.Answering.TheVariants.{PackedBo
 abbrev pub open_with : ℕ → Verdict → List ℕ → List ℕ
 open_with number verdict opened = if is_accepted verdict then number ∷ opened else opened
 
--- Scaffolding, and no promise: what the contracts of private functions cite.
+-- Scaffolding, and no promise: what proofs and the contracts of private functions cite.
 
 abbrev pub tells_so : {S : Type 0} → Setting S → ℕ → Telling → Speaker S → Speaker S
 tells_so setting number (Pongs ping) speaker = says setting (Pong number ping) speaker

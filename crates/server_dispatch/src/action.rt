@@ -150,7 +150,7 @@ impl Action {
         match verdict {
             Verdict::Noticed(code) => Action::Notice { seq, code: *code },
             Verdict::Again(_) => Action::CameAgain { seq },
-            Verdict::Accepted(_) => self,
+            Verdict::Accepted => self,
         }
     }
 

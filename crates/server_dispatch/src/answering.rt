@@ -30,7 +30,7 @@ use temp_keys::{Binding, check};
 
 impl Turn {
     /// The session gives a call that has no answer one of the short ones, and keeps it.
-    pub fn answers_shortly<D: Draw>(
+    pub(crate) fn answers_shortly<D: Draw>(
         &mut self,
         now: Moment,
         standing: &mut SessionState,
@@ -50,7 +50,7 @@ impl Turn {
     }
 
     /// The session gives a call one of the short answers in place of running this request of it, which is recorded so.
-    pub fn answers_in_place<D: Draw>(
+    pub(crate) fn answers_in_place<D: Draw>(
         &mut self,
         now: Moment,
         standing: &mut SessionState,
@@ -79,7 +79,7 @@ impl Turn {
     }
 
     /// The session answers a message that isn't spelt right. One that asks to drop an answer is no call for the service.
-    pub fn answers_broken<D: Draw>(
+    pub(crate) fn answers_broken<D: Draw>(
         &mut self,
         now: Moment,
         standing: &mut SessionState,

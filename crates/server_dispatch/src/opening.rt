@@ -1,19 +1,19 @@
 //! What a session owes first to a packet.
 
-ghost use Rattle.std.specs.Prelude.{◌≡◌, ◌==◌, ◌≤◌, ◌<◌, ◌+◌, if◌then◌else◌, ℕ, List, [], length, vec_len, vec_capacity};
+ghost use Rattle.std.specs.Prelude.{◌≡◌, ◌==◌, ◌≤◌, ◌<◌, ◌+◌, if◌then◌else◌, ℕ, List, [], length, map, vec_len, vec_capacity};
 ghost use Rattle.std.specs.List.{AllByRecursion, list_any};
-ghost use Rattle.inbox.specs.declared.judged.Judgement.{Judgement};
+ghost use Rattle.inbox.specs.Verdicts.{Judgement as Told, bare_judgement};
 ghost use Rattle.waits.specs.Jobs.{Queue};
 ghost use Rattle.server_rules.specs.Answer.{opens};
 ghost use Rattle.server_rules.specs.Event.{Speaker};
-ghost use Rattle.server_rules.specs.Rows.{acks_of, is_mark_acked, is_verdict_acked};
+ghost use Rattle.server_rules.specs.Rows.{acks_of, is_mark_acked};
 ghost use Rattle.server_rules.specs.Server.{Binding, has_accepted};
 ghost use Rattle.server_rules.specs.Speaking.{says_it_is_new};
 ghost use Rattle.server_output.specs.Items.{acks_bytes, ids_max, new_session_bytes};
 ghost use Rattle.server_session.specs.SessionState.{IsAt, outbox_of};
 ghost use Rattle.server_session.specs.Says.{Keys, setting_of};
 ghost use Rattle.server_session.specs.Unsaid.{NoMoreUnsaid};
-ghost use Rattle.server_dispatch.specs.Acks.{is_acked, noted};
+ghost use Rattle.server_dispatch.specs.Acks.{is_acked, is_bare_acked, noted};
 ghost use Rattle.server_dispatch.specs.Speaks.{HasRoom, Speaks, Spends};
 
 use crate::calls::has;
@@ -28,7 +28,7 @@ use server_session::SessionState;
 pub fn acks_in(judged: &[Judgement], acks: &mut Vec<u64>)
     requires empty { acks.old.items ≡ [] }
     requires room { length judged.now ≤ vec_capacity acks.old }
-    ensures acks { acks.new.items ≡ acks_of judged.now }
+    ensures acks { (told : List Told) → judged.now ≡ map bare_judgement told → acks.new.items ≡ acks_of told }
     ensures few { length acks.new.items ≤ length judged.now }
     ensures same_capacity { vec_capacity acks.new ≡ vec_capacity acks.old }
 {
@@ -79,10 +79,10 @@ fn is_acked(judgement: &Judgement) -> bool
 }
 
 fn is_verdict_acked(verdict: &Verdict) -> bool
-    ensures { result ≡ is_verdict_acked verdict.now }
+    ensures { result ≡ is_bare_acked verdict.now }
 {
     match verdict {
-        Verdict::Accepted(_) => true,
+        Verdict::Accepted => true,
         Verdict::Again(mark) => is_mark_acked(*mark),
         Verdict::Noticed(_) => false,
     }
@@ -110,7 +110,7 @@ impl Turn {
         requires few { length acks.now ≤ ids_max }
         requires room { HasRoom 2 (new_session_bytes + acks_bytes (length acks.now)) 0 standing.old self.old }
         requires at { IsAt now standing.old }
-        ensures speaks { (keys : Keys) (jobs : Queue) (bindings : List Binding) (speaker : Speaker D) (judged : List Judgement) → acks.now ≡ acks_of judged
+        ensures speaks { (keys : Keys) (jobs : Queue) (bindings : List Binding) (speaker : Speaker D) (judged : List Told) → acks.now ≡ acks_of judged
             → Speaks now standing.old self.old jobs bindings draw.old speaker
             → Speaks now standing.new self.new jobs bindings draw.new (opens (setting_of now D.step keys) speaker.session.history judged speaker) }
         ensures spends { Spends now 2 (new_session_bytes + acks_bytes (length acks.now)) 0 standing.old self.old standing.new self.new }

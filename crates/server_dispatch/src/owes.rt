@@ -3,7 +3,7 @@
 ghost use Rattle.std.specs.Prelude.{◌≡◌, ◌≤◌, ◌<◌, ◌+◌, ◌∷◌, ℕ, Bool, List, false, true};
 ghost use Rattle.id_window.specs.History.{History};
 ghost use Rattle.outbox.specs.declared.kept.Kept.{Kept};
-ghost use Rattle.inbox.specs.declared.judged.Verdict.{Verdict};
+ghost use Rattle.inbox.specs.Verdicts.{Verdict};
 ghost use Rattle.waits.specs.Jobs.{Queue};
 ghost use Rattle.server_rules.specs.Event.{Speaker};
 ghost use Rattle.server_rules.specs.Rows.{owes};

@@ -24,7 +24,7 @@ impl Turn {
     /// What the session owes to a message that came again, by the mark that its number has now: its notice, its kept reply
     /// unless that was said in this event, notice 20 where the reply was dropped, and else nothing. Beside the notice there is
     /// room for the kept reply unless it was said.
-    pub fn came_again<D: Draw>(
+    pub(crate) fn came_again<D: Draw>(
         &mut self,
         now: Moment,
         standing: &mut SessionState,

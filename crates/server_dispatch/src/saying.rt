@@ -1,4 +1,5 @@
-//! What a session owes that keeps no reply and touches no job.
+//! What a session says by `Turn` that keeps no reply and touches no job: that it is new, what it received, notices, and whether
+//! another session was destroyed.
 
 ghost use Rattle.std.specs.Prelude.{◌≡◌, ◌≤◌, ℕ, List, length};
 ghost use Rattle.waits.specs.Jobs.{Queue};

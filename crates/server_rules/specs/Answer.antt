@@ -6,7 +6,7 @@ use Rattle.msg_ids.specs.Counters.{none_given, room}
 use Rattle.salt_line.specs.Line.{fresh_line}
 use Rattle.service_tl.specs.declared.lists.Message.{Message}
 use Rattle.id_window.specs.History.{History}
-use Rattle.inbox.specs.declared.judged.Judgement.{Judgement}
+use Rattle.inbox.specs.Verdicts.{Judgement}
 use Rattle.inbox.specs.Refusals.{Way, InEnvelope}
 use Rattle.inbox.specs.Judging.{judge, judgements, session_after, unfolded}
 use Rattle.waits.specs.declared.job.Job.{Job}

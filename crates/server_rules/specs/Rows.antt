@@ -12,9 +12,7 @@ use Rattle.salt_line.specs.Future.{salt_rows}
 use Rattle.id_window.specs.declared.mark.Mark.{Mark}
 use Rattle.id_window.specs.declared.mark.Mark.TheVariants.{Noticed as MarkNoticed, Service, Waiting, Replied, Acked, Dropped}
 use Rattle.msg_ids.specs.Counters.{is_odd}
-use Rattle.inbox.specs.declared.judged.Verdict.{Verdict}
-use Rattle.inbox.specs.declared.judged.Verdict.TheVariants.{Accepted, Again, Noticed}
-use Rattle.inbox.specs.declared.judged.Judgement.{Judgement}
+use Rattle.inbox.specs.Verdicts.{Verdict, Accepted, Again, Noticed, Judgement}
 use Rattle.inbox.specs.States.{state_byte}
 use Rattle.server_rules.specs.Server.{Reply, WasAcked, Name, is_kept, mark_in, marks_of, reply_to, session_named}
 use Rattle.server_rules.specs.Event.{Setting, State, Speaker, speaks, lost}

@@ -1,6 +1,6 @@
 //! A session.
 
-ghost use Rattle.std.specs.Prelude.{All, ◌∷◌, ◌++◌, ◌≡◌, ◌^◌, ◌≤◌, ◌<◌, ◌+◌, ℕ, List, [], drop, length, min, not, true, false, IfOk, IsSome, OnErr, OnOk};
+ghost use Rattle.std.specs.Prelude.{All, ◌∷◌, ◌++◌, ◌≡◌, ◌^◌, ◌≤◌, ◌<◌, ◌+◌, ℕ, List, [], drop, length, map, min, not, true, false, IfOk, IsSome, OnErr, OnOk};
 ghost use Rattle.draws.specs.Draws.{draw_after, word_after};
 ghost use Rattle.salt_line.specs.Rows.{future_rows_max};
 ghost use Rattle.service_tl.specs.declared.item.Item.TheVariants.{Pong, RpcResult};
@@ -8,6 +8,7 @@ ghost use Rattle.service_tl.specs.Items.{spelling_of};
 ghost use Rattle.server_output.specs.Dues.{has_number};
 ghost use Rattle.inbox.specs.Inbox.{message_in};
 ghost use Rattle.inbox.specs.Judging.{judgements, session_after};
+ghost use Rattle.inbox.specs.Verdicts.{bare_judgement};
 ghost use Rattle.inbox.specs.Refusals.{InEnvelope};
 ghost use Rattle.outbox.specs.Bodies.{head_bytes};
 ghost use Rattle.waits.specs.Jobs.{Queue};
@@ -131,7 +132,7 @@ impl SessionState {
     pub fn judges(&mut self, alloc: Global, now: Moment, outer: &Outer) -> Result<Judged, Memory>
         requires at { IsAt now self.old }
         ensures judged { (session : Session) → Stands now self.old session
-            → IfOk result (λ judged. judged ≡ judgements (InEnvelope now session.salts outer.now.salt) (remembered session) (message_in outer.now)) }
+            → IfOk result (λ judged. judged ≡ map bare_judgement (judgements (InEnvelope now session.salts outer.now.salt) (remembered session) (message_in outer.now))) }
         ensures stands { (session : Session) (jobs : Queue) → Stands now self.old session
             → IsOrderly session.history session.replies session.counters.last jobs
             → OnOk result (Stands now self.new (record session { history = (session_after (InEnvelope now session.salts outer.now.salt) (remembered session) (message_in outer.now)).history })) }

@@ -8,7 +8,6 @@ use octets::{Memory, Octets};
 use server_dispatch::{Bindings, CallDue, Entries, Short, Turn, acks_in};
 use server_output::OutgoingMessages;
 use server_session::SessionState;
-use service_tl::Item;
 use std::alloc::Global;
 use std::test::Fail;
 use temp_keys::Binding;
@@ -219,7 +218,7 @@ enum Came {
 
 fn judgement(number: u64, seq: u32, came: Came) -> Judgement {
     let verdict = match came {
-        Came::Call => Verdict::Accepted(Item::Call),
+        Came::Call => Verdict::Accepted,
         Came::Again(mark) => Verdict::Again(mark),
         Came::Refused => Verdict::Noticed(33),
     };

@@ -46,7 +46,7 @@ const AGAIN_CONTAINER: u32 = 1_002;
 // What became of a message, as a number: that of its notice, or one of the above.
 fn code_of(verdict: &Verdict) -> u32 {
     match verdict {
-        Verdict::Accepted(_) => ACCEPTED,
+        Verdict::Accepted => ACCEPTED,
         Verdict::Again(Mark::Waiting) => AGAIN_WAITING,
         Verdict::Again(Mark::Container) => AGAIN_CONTAINER,
         Verdict::Again(_) => AGAIN,
@@ -100,7 +100,7 @@ fn put_word(body: &mut Octets, alloc: Global, word: u64) -> Result<(), Memory> {
     body.push_all(alloc, &low(word).to_le_bytes())
 }
 
-// Puts so many calls into a container, of which each says this length.
+// Puts so many calls into a container; the last one says this length, each other 4.
 fn put_calls(body: &mut Octets, alloc: Global, count: u64, last_length: u64) -> Result<(), Memory> {
     for place in 1..=count {
         let length = if place == count { last_length } else { 4 };

@@ -6,7 +6,7 @@ use Rattle.inbox.proofs.draft.inner_drafts.Goals as goal
 
 pub loop-part-preserved : goal.loop-part-preserved
 loop-part-preserved c =
-    rw (c.in_ok-push.ensures.items, c.in_ok-inner_draft.ensures, append_assoc) (rw c.in-Some.ensures.steps at c.loop-part.invariant)
+    rw (c.in_ok-push.ensures.items, c.inner_draft.ensures, append_assoc) (rw c.in-Some.ensures.steps at c.loop-part.invariant)
 
 pub returns : goal.returns
 returns c =

@@ -1,5 +1,5 @@
 use Rattle.std.proofs.Common.{ap}
-use Rattle.inbox.specs.declared.judged.Verdict.{Verdict}
+use Rattle.inbox.specs.Verdicts.{Verdict}
 use Rattle.inbox.specs.Kinds.{kind_of}
 use Rattle.inbox.specs.Judging.{recorded, remembered, inner_session, unfolded}
 use Rattle.inbox.proofs.AcceptanceLemmas.{acceptable_judged}

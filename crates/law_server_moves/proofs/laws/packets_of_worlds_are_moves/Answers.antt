@@ -8,7 +8,7 @@ use Rattle.salt_line.specs.Rows.{Row}
 use Rattle.service_tl.specs.declared.lists.Message.{Message}
 use Rattle.packing.specs.Packing.{groups}
 use Rattle.id_window.specs.History.{History}
-use Rattle.inbox.specs.declared.judged.Judgement.{Judgement}
+use Rattle.inbox.specs.Verdicts.{Judgement}
 use Rattle.inbox.specs.Refusals.{InContainer, InEnvelope, Way}
 use Rattle.inbox.specs.Judging.{judgements, session_after}
 use Rattle.waits.specs.declared.job.Unfinished.{Unfinished}

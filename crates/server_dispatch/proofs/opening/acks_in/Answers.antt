@@ -7,9 +7,9 @@ use Rattle.server_dispatch.proofs.Once.{noted-are}
 use Rattle.server_dispatch.proofs.opening.acks_in.Goals as goal
 
 pub returns-clause-acks : goal.returns-clause-acks
-returns-clause-acks c =
+returns-clause-acks c told is =
     c.loop-judgement.invariant.0
-    ∙ (ap (λ (some : List Judgement). fold noted [] some) (take_all c.loop-judgement.judgement-index c.args.judged.now (omega arith)) ∙ noted-are c.args.judged.now)
+    ∙ (ap (λ (some : List Judgement). fold noted [] some) (take_all c.loop-judgement.judgement-index c.args.judged.now (omega arith) ∙ is) ∙ noted-are told)
 
 pub loop-judgement-preserved : goal.loop-judgement-preserved
 loop-judgement-preserved c = (

@@ -1,11 +1,10 @@
 use Rattle.std.proofs.Common.{◌≡◌, ◌∙◌, true, false, None, sym, ap, rules, arith}
 use Rattle.std.proofs.lemmas.Bool.Decides.{nat_tests}
-use Rattle.inbox.specs.declared.judged.Judgement.{Judgement}
+use Rattle.inbox.specs.Verdicts.{is_bare_accepted}
 use Rattle.inbox.specs.Refusals.{InEnvelope}
-use Rattle.inbox.specs.Judging.{is_accepted}
 use Rattle.inbox.specs.Inbox.{message_in, without_room}
 use Rattle.inbox.specs.Drafts.{draft_session}
-use Rattle.inbox.proofs.JudgeLemmas.{Settled, alone_judged, alone_stands, all_judged, all_stands, first_accepted, accepted_new, on_message}
+use Rattle.inbox.proofs.JudgeLemmas.{Settled, accepted_then, alone_judged, alone_stands, all_judged, all_stands, first_accepted, accepted_new}
 use Rattle.inbox.proofs.inbox.Inbox.judge.Goals as goal
 
 -- ---- a message that isn't accepted
@@ -21,7 +20,7 @@ returns-then-not-accepted-clause-judged c session salts stands line_stands =
       draft_is = c.in_ok-message.ensures.message;
       judgement_is = c.settle-judgement.ensures.judged session w1;
     } in
-    let unaccepted : is_accepted c.settle-judgement.result.verdict ≡ false = first_of (cc, search rules, grind (arith, nat_tests)) in
+    let unaccepted : is_bare_accepted c.settle-judgement.result.verdict ≡ false = first_of (cc, search rules, grind (arith, nat_tests)) in
     alone_judged way session (message_in c.args.outer.now) _ _ _ settled _ _ unaccepted c.in_ok-judgements.ensures.items c.push_reserved.ensures.items
 
 pub returns-then-not-accepted-clause-accepts : goal.returns-then-not-accepted-clause-accepts
@@ -40,7 +39,7 @@ returns-then-not-accepted-clause-recorded c session salts stands line_stands =
       draft_is = c.in_ok-message.ensures.message;
       judgement_is = c.settle-judgement.ensures.judged session w1;
     } in
-    let unaccepted : is_accepted c.settle-judgement.result.verdict ≡ false = first_of (cc, search rules, grind (arith, nat_tests)) in
+    let unaccepted : is_bare_accepted c.settle-judgement.result.verdict ≡ false = first_of (cc, search rules, grind (arith, nat_tests)) in
     alone_stands way session (message_in c.args.outer.now) _ _ _ settled c.settle-judgement.new.window c.self.inside.heard c.room_counts_nothing.ensures unaccepted old.heard (c.settle-judgement.ensures.stands session w1)
 
 -- ---- an accepted one
@@ -56,8 +55,8 @@ returns-clause-judged c session salts stands line_stands =
       draft_is = c.in_ok-message.ensures.message;
       judgement_is = c.settle-judgement.ensures.judged session w1;
     } in
-    let accepted : is_accepted c.settle-judgement.result.verdict ≡ true = first_of (cc, search rules, grind (arith, nat_tests)) in
-    let unseen = accepted_new _ _ _ _ (ap (λ (j : Judgement). is_accepted j.verdict) (sym (on_message way session (message_in c.args.outer.now) _ _ _ settled)) ∙ accepted) in
+    let accepted : is_bare_accepted c.settle-judgement.result.verdict ≡ true = first_of (cc, search rules, grind (arith, nat_tests)) in
+    let unseen = accepted_new _ _ _ _ (accepted_then way session (message_in c.args.outer.now) _ _ _ settled accepted) in
     let unfound : c.find.result ≡ None = c.find.ensures.stands session.history session.marks w0 ∙ unseen in
     let is_new : c.is_none-is_new.result ≡ true = first_of (cc, search rules, grind (arith, nat_tests)) in
     all_judged way session (message_in c.args.outer.now) _ _ _ settled c.in_ok-message.inner.items _ _ _ accepted (c.in_ok-message.ensures.inner is_new) c.in_ok-judgements.ensures.items c.push_reserved.ensures.items
@@ -78,8 +77,8 @@ returns-clause-recorded c session salts stands line_stands =
       draft_is = c.in_ok-message.ensures.message;
       judgement_is = c.settle-judgement.ensures.judged session w1;
     } in
-    let accepted : is_accepted c.settle-judgement.result.verdict ≡ true = first_of (cc, search rules, grind (arith, nat_tests)) in
-    let unseen = accepted_new _ _ _ _ (ap (λ (j : Judgement). is_accepted j.verdict) (sym (on_message way session (message_in c.args.outer.now) _ _ _ settled)) ∙ accepted) in
+    let accepted : is_bare_accepted c.settle-judgement.result.verdict ≡ true = first_of (cc, search rules, grind (arith, nat_tests)) in
+    let unseen = accepted_new _ _ _ _ (accepted_then way session (message_in c.args.outer.now) _ _ _ settled accepted) in
     let unfound : c.find.result ≡ None = c.find.ensures.stands session.history session.marks w0 ∙ unseen in
     let is_new : c.is_none-is_new.result ≡ true = first_of (cc, search rules, grind (arith, nat_tests)) in
     all_stands way session (message_in c.args.outer.now) _ _ _ settled c.settle_inner.new.window c.in_ok-message.inner.items c.room_counts_nothing.ensures accepted (c.in_ok-message.ensures.inner is_new)

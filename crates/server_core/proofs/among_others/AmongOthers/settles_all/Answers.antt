@@ -33,9 +33,9 @@ loop-judgement-init g c =
       job_room = subst (λ (left : List Judgement). length left ≤ c.args.self.now.speaking.jobs.room) (sym first_is) c.requires.job_room;
       binding_room = subst (λ (left : List Judgement). length left ≤ c.args.self.now.speaking.bindings.room) (sym first_is) c.requires.binding_room;
       others = left-all c.args.self.now.others;
-      under = λ keys name past bodies among ring are is speaks.
+      under = λ keys name past told bodies among ring told_are are is speaks.
           all-begin {S = D} c.args.now (setting_of c.args.now g.D.Draw.step keys) name past c.args.limit judged first dues second c.args.self.now.others c.args.self.now.speaking.standing c.args.self.now.speaking.turn
-          c.args.self.now.speaking.jobs.jobs c.args.self.now.speaking.bindings.bindings c.args.draw.now bodies among first_is second_is are is speaks;
+          c.args.self.now.speaking.jobs.jobs c.args.self.now.speaking.bindings.bindings c.args.draw.now told bodies among first_is second_is told_are are is speaks;
     }
 
 pub settles-left-requires-clause-at : goal.settles-left-requires-clause-at
@@ -90,13 +90,13 @@ loop-judgement-preserved g c =
       job_room = omega (arith, so_far.job_room, promised.job_room_lasts, long);
       binding_room = omega (arith, so_far.binding_room, promised.binding_room_lasts, long);
       others = left-then c.args.self.now.others c.loop-judgement.self.others after.self.others so_far.others promised.left;
-      under = λ keys name past bodies among ring are is speaks.
+      under = λ keys name past told bodies among ring told_are are is speaks.
           let setting : Setting D = setting_of now g.D.Draw.step keys in
           goes-on {S = D} c.one_session_stays_alone.ensures.settles c.one_session_stays_in_order.ensures.settles now setting name past left answered (left - answered)
-          (all_settled setting c.args.judged.now bodies among) judgement judged next due dues left_dues
+          (all_settled setting told bodies among) judgement judged next due dues left_dues
           c.loop-judgement.self.others c.loop-judgement.self.speaking.standing c.loop-judgement.self.speaking.turn c.loop-judgement.self.speaking.jobs.jobs c.loop-judgement.self.speaking.bindings.bindings c.loop-judgement.draw
           after.self.others after.self.speaking.standing after.self.speaking.turn after.self.speaking.jobs.jobs after.self.speaking.bindings.bindings after.draw
-          given c.judged-due.ensures first_is due_is together (so_far.under keys name past bodies among ring are is speaks)
+          given c.judged-due.ensures first_is due_is together (so_far.under keys name past told bodies among ring told_are are is speaks)
           (record {
             settled = λ seq verdict body opened so_far. promised.settled keys name past seq verdict body opened so_far ring;
             fewer = λ seq verdict body opened so_far. promised.fewer keys name past seq verdict body opened so_far ring;
@@ -104,7 +104,7 @@ loop-judgement-preserved g c =
     }
 
 pub returns-clause-settled : goal.returns-clause-settled
-returns-clause-settled g c = λ keys name past bodies among ring are is speaks.
+returns-clause-settled g c = λ keys name past told bodies among ring told_are are is speaks.
     let D : Type 0 = g.row.D.Denot in
     let now = c.args.now in
     let setting : Setting D = setting_of now g.D.Draw.step keys in
@@ -116,9 +116,9 @@ returns-clause-settled g c = λ keys name past bodies among ring are is speaks.
       | inl first ↦ first.1.0
       | inr second ↦ omega (arith, so_far.enough, second.1.0, c.loop-judgement.judgement-iterator.b.rest.ok.0)
     ] in
-    ends {S = D} now setting name past c.loop-judgement.left (all_settled setting c.args.judged.now bodies among) judged dues
+    ends {S = D} now setting name past c.loop-judgement.left (all_settled setting told bodies among) judged dues
     c.loop-judgement.self.others c.loop-judgement.self.speaking.standing c.loop-judgement.self.speaking.turn c.loop-judgement.self.speaking.jobs.jobs c.loop-judgement.self.speaking.bindings.bindings c.loop-judgement.draw
-    (so_far.under keys name past bodies among ring are is speaks) none
+    (so_far.under keys name past told bodies among ring told_are are is speaks) none
 
 pub returns-clause-uses : goal.returns-clause-uses
 returns-clause-uses g c = λ called implied.

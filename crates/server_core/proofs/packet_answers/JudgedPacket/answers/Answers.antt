@@ -1,4 +1,4 @@
-use Rattle.std.proofs.Common.{◌≡◌, ◌∙◌, ◌≤◌, ℕ, false, true, List, [], length, ap, sym, subst, refl, arith}
+use Rattle.std.proofs.Common.{◌≡◌, ◌∙◌, ◌≤◌, ℕ, false, true, List, [], length, map, ap, sym, subst, refl, arith}
 use Rattle.auth_keys.specs.Rings.{entry_of}
 use Rattle.auth_keys.specs.declared.ring.RingKey.{RingKey}
 use Rattle.std.specs.Prelude.{IsSome, nat_lt}
@@ -6,7 +6,8 @@ use Rattle.std.proofs.lemmas.Bool.{ltb-false}
 use Rattle.waits.specs.Held.{Held as Jobs}
 use Rattle.waits.specs.Jobs.{Queue}
 use Rattle.id_window.specs.History.{History}
-use Rattle.inbox.specs.declared.judged.Judgement.{Judgement}
+use Rattle.inbox.specs.declared.judged.Judgement.{Judgement as BareJudgement}
+use Rattle.inbox.specs.Verdicts.{Judgement, bare_judgement}
 use Rattle.server_output.specs.Dues.{Dues}
 use Rattle.server_output.specs.Outs.{AreSent}
 use Rattle.server_dispatch.specs.declared.dues.Due.{Due}
@@ -29,13 +30,13 @@ use Rattle.server_core.specs.Packets.{bodies_of, judged_of}
 use Rattle.server_core.specs.Room.{turn_in}
 use Rattle.server_core.specs.Server.{CanSpeak, IsSound}
 use Rattle.server_core.specs.Settling.{SpeaksAmong}
-use Rattle.server_core.specs.SettlingAll.{AreDue, all_settled, are_numbered, calls_of}
+use Rattle.server_core.specs.SettlingAll.{all_settled, are_numbered, calls_of}
 use Rattle.server_core.proofs.AllSettled.{judged-calls}
 use Rattle.server_core.proofs.Attached.{own-rest}
 use Rattle.server_core.proofs.Names.{name-by}
 use Rattle.server_core.proofs.Ordered.{KeepsOrder}
 use Rattle.server_core.proofs.PacketRoom.{acks-short, opening-room, sending-room, settling-room}
-use Rattle.server_core.proofs.Taken.{begins-taking, due-few, left-apart, left-bound, left-drawn, left-entered, left-sent, opened-settling, sound-last, taken-sent}
+use Rattle.server_core.proofs.Taken.{Told, begins-taking, left-apart, left-bound, left-drawn, left-entered, left-sent, opened-settling, sound-last, taken-sent, told-few, told-so}
 use Rattle.server_core.proofs.packet_answers.JudgedPacket.answers.Goals as goal
 
 -- a speaker with the same jobs and bindings
@@ -163,40 +164,39 @@ returns-clause-given g c = λ keys envelope among of has fits.
     } in
     let given = c.as_slice.result.now in
     let given_is : given ≡ c.args.self.judged = c.as_slice.ensures in
-    let has_given : given ≡ judged_of setting envelope session = given_is ∙ has.are in
-    let due_given : AreDue given bodies room.dues.items = subst (λ (judged : List Judgement). AreDue judged bodies room.dues.items) (sym given_is) fits.due in
-    let numbered_given : are_numbered given room.dues.items ≡ true = subst (λ (judged : List Judgement). are_numbered judged room.dues.items ≡ true) (sym given_is) fits.numbered in
-    let judged : List Judgement = c.in_room-judged.result.now in
-    let due_long = due-few given bodies room.dues.items due_given in
+    let numbered_given : are_numbered given room.dues.items ≡ true = subst (λ (judged : List BareJudgement). are_numbered judged room.dues.items ≡ true) (sym given_is) fits.numbered in
+    let judged : List BareJudgement = c.in_room-judged.result.now in
+    let all_told : Told given bodies room.dues.items (judged_of setting envelope session) = told-so given bodies room.dues.items (judged_of setting envelope session) (given_is ∙ has.are) fits.due in
+    let told : List Judgement = all_told.told in
+    let few = told-few given bodies room.dues.items told all_told.are all_told.due in
     let dues_are : c.as_slice-2.result.now ≡ room.dues.items = c.as_slice-2.ensures.value in
     let L : List Due → Type 0 = λ dues. length given ≤ length dues in
     let R : List Due → Type 0 = λ dues. are_numbered given dues ≡ true in
-    let same : judged ≡ given = c.in_room-judged.ensures.all (subst L (sym dues_are) due_long) (subst R (sym dues_are) numbered_given) in
-    let is : judged ≡ judged_of setting envelope session = same ∙ has_given in
-    let due : AreDue judged bodies room.dues.items = subst (λ (judged : List Judgement). AreDue judged bodies room.dues.items) (sym same) due_given in
-    let long : length judged ≡ length c.args.self.judged = ap (λ (judged : List Judgement). length judged) (same ∙ given_is) in
+    let same : judged ≡ given = c.in_room-judged.ensures.all (subst L (sym dues_are) few.1) (subst R (sym dues_are) numbered_given) in
+    let is : judged ≡ map bare_judgement told = same ∙ all_told.are in
+    let long : length told ≡ length c.args.self.judged = sym few.0 ∙ ap (λ (judged : List BareJudgement). length judged) given_is in
     let none : room.speech.owing.messages ≡ [] = ap (λ (dues : Dues). dues.messages) c.requires.room.taken.speech.owing in
     let nothing : room.entries.entries ≡ [] = ap (λ (held : Held). held.entries) c.requires.room.taken.entries in
     let first = begins-taking setting envelope c.args.self.others c.args.self.standing (turn_in room) c.args.jobs.now.jobs c.args.bindings.now.bindings c.args.draw.now
     c.args.self.judged among has none nothing in
-    let opened : Among D = speaks_among (opens setting history judged) among in
+    let opened : Among D = speaks_among (opens setting history told) among in
     let lent_jobs = c.replace-lent_jobs.result.jobs in
     let lent_bindings = c.replace-lent_bindings.result.bindings in
     let jobs_are : lent_jobs ≡ c.args.jobs.now.jobs = ap (λ (held : Jobs). held.jobs) c.replace-lent_jobs.ensures.value in
     let bindings_are : lent_bindings ≡ c.args.bindings.now.bindings = ap (λ (held : Bindings). held.bindings) c.replace-lent_bindings.ensures.value in
     let begins : SpeaksAmong now c.args.self.others c.opens.new.standing c.opens.new.self lent_jobs lent_bindings c.opens.new.draw opened = record {
       others = has.heard.others;
-      speaks = lent-speaks jobs_are bindings_are (c.opens.ensures.speaks keys c.args.jobs.now.jobs c.args.bindings.now.bindings (remembers_among history among).speaker judged
-          (c.as_slice-3.ensures.value ∙ c.acks_in.ensures.acks) first);
+      speaks = lent-speaks jobs_are bindings_are (c.opens.ensures.speaks keys c.args.jobs.now.jobs c.args.bindings.now.bindings (remembers_among history among).speaker told
+          (c.as_slice-3.ensures.value ∙ c.acks_in.ensures.acks told is) first);
     } in
-    let settling = opened-settling keeps c.packets_are_judged.ensures.opened c.packets_are_judged.ensures.told setting envelope room.limit judged among has.alone has.order is
+    let settling = opened-settling keeps c.packets_are_judged.ensures.opened c.packets_are_judged.ensures.told setting envelope room.limit told among has.alone has.order all_told.same
     (omega (arith, long, fits.few)) in
     let of_ring = subst (λ (ring : List RingKey). AreOf ring keys) (sym c.ring.ensures) of in
-    let all = c.settles_all.ensures.settled keys name history bodies opened of_ring due settling begins in
+    let all = c.settles_all.ensures.settled keys name history told bodies opened of_ring is all_told.due settling begins in
     let taken : Among D = takes_among setting envelope among in
     let P : List Judgement → Type 0 = λ judged. SpeaksAmong now c.settles_all.new.self.others c.settles_all.new.self.speaking.standing c.settles_all.new.self.speaking.turn c.settles_all.new.self.speaking.jobs.jobs
     c.settles_all.new.self.speaking.bindings.bindings c.settles_all.new.draw (all_settled setting judged bodies (speaks_among (opens setting history judged) among)) in
-    let at = subst P is all in
+    let at = subst P all_told.same all in
     let own = c.sessions_speak_for_themselves.ensures in
     let sent : taken.speaker.sent ≡ [] = taken-sent own.owes own.gives_up setting envelope among ∙ has.heard.sent in
     let rest = own-rest setting taken.speaker in

@@ -1,8 +1,9 @@
-use Rattle.std.proofs.Common.{◌≡◌, ◌∙◌, ◌+◌, ◌≤◌, ℕ, true, Some, List, length, ap, sym, subst, arith}
+use Rattle.std.proofs.Common.{◌≡◌, ◌∙◌, ◌+◌, ◌≤◌, ℕ, true, Some, List, length, map, ap, sym, subst, arith}
 use Rattle.std.specs.List.{insert, position, remove}
 use Rattle.std.proofs.lemmas.List.Edits.{length-remove}
 use Rattle.auth_keys.specs.declared.ring.RingKey.{RingKey}
-use Rattle.inbox.specs.declared.judged.Judgement.{Judgement}
+use Rattle.inbox.specs.declared.judged.Judgement.{Judgement as BareJudgement}
+use Rattle.inbox.specs.Verdicts.{Judgement, bare_judgement}
 use Rattle.server_dispatch.specs.declared.dues.Due.{Due}
 use Rattle.server_dispatch.specs.Rings.{AreOf}
 use Rattle.waits.specs.Jobs.{Queue}
@@ -26,7 +27,7 @@ use Rattle.server_core.proofs.HeardLemmas.{back-at, beside-known, can-judged, ca
 use Rattle.server_core.proofs.Lists.{place-is}
 use Rattle.server_core.proofs.PacketDues.{are-due, same-numbers}
 use Rattle.server_core.proofs.Speaking.{kept-later, sessions-have_room}
-use Rattle.server_core.proofs.Taken.{due-few}
+use Rattle.server_core.proofs.Taken.{told-few}
 use Rattle.server_core.proofs.server.Server.takes_at.Goals as goal
 
 pub hears_known-others-requires : goal.hears_known-others-requires
@@ -180,7 +181,8 @@ returns-in-Ok-clause-given g c = λ keys server of stands order.
     let ordered = c.one_session_stays_in_order.ensures.heard setting envelope server draw order in
     let judged = c.in-Ok.both.1 in
     let taken = c.in-Ok.both.0 in
-    let judged_is : judged ≡ judged_of setting envelope session = c.in-Ok.ensures.judged session is_heard.stands in
+    let told : List Judgement = judged_of setting envelope session in
+    let judged_is : judged ≡ map bare_judgement told = c.in-Ok.ensures.judged session is_heard.stands in
     let after = c.in-Ok.ensures.stands session (jobs_of name heard.speaker.jobs) is_heard.stands ordered in
     let jobs_are : c.judges_in_room.new.jobs.jobs ≡ server.jobs = c.in-Ok.ensures.same_jobs ∙ inside.jobs in
     let bindings_are : c.judges_in_room.new.bindings.bindings ≡ server.bindings = c.in-Ok.ensures.same_bindings ∙ inside.bindings in
@@ -188,23 +190,22 @@ returns-in-Ok-clause-given g c = λ keys server of stands order.
     server.bindings c.judges_in_room.new.bindings.bindings draw judged heard is_heard after jobs_are bindings_are judged_is alone ordered in
     let bodies = bodies_of setting envelope session in
     let due_is : taken.dues.items ≡ dues_in (mark_in session envelope.number) (message_in envelope) = c.in-Ok.ensures.dues session is_heard.stands in
-    let J : List Judgement → Type 0 = λ judged. AreDue judged bodies taken.dues.items in
-    let E : List Due → Type 0 = λ dues. AreDue (judged_of setting envelope session) bodies dues in
-    let due : AreDue judged bodies taken.dues.items =
-    subst J (sym judged_is) (subst E (sym due_is) (are-due (way_of setting envelope session) (remembered session) (message_in envelope))) in
+    let E : List Due → Type 0 = λ dues. AreDue told bodies dues in
+    let due : AreDue told bodies taken.dues.items = subst E (sym due_is) (are-due (way_of setting envelope session) (remembered session) (message_in envelope)) in
+    let enough = told-few judged bodies taken.dues.items told judged_is due in
     let named_so : name_kept one ≡ name = c.hears_known-others.ensures.named name placed in
     let limit_is : taken.limit ≡ blocked_of name server.jobs + length taken.dues.items =
     c.in-Ok.ensures.limit
     ∙ (ap (λ (name : Name). blocked_of name c.self.inside.jobs.jobs + length taken.dues.items) named_so
     ∙ ap (λ (jobs : Queue). blocked_of name jobs + length taken.dues.items) inside.jobs) in
-    let A : List Judgement → Type 0 = λ judged. are_numbered judged taken.dues.items ≡ true in
-    let N : List Due → Type 0 = λ dues. are_numbered (judged_of setting envelope session) dues ≡ true in
+    let A : List BareJudgement → Type 0 = λ judged. are_numbered judged taken.dues.items ≡ true in
+    let N : List Due → Type 0 = λ dues. are_numbered (map bare_judgement told) dues ≡ true in
     let fits : Fits setting envelope judged taken heard = record {
       due = due;
       numbered = subst A (sym judged_is) (subst N (sym due_is) (same-numbers (way_of setting envelope session) (remembered session) (message_in envelope)));
       few =
           fits-few (blocked_of name server.jobs) (blocked_of name heard.speaker.jobs) (length judged) (length taken.dues.items) taken.limit limit_is
-          (heard-blocked setting envelope (session_named name server.sessions) (begun server draw)) (due-few judged bodies taken.dues.items due);
+          (heard-blocked setting envelope (session_named name server.sessions) (begun server draw)) enough.1;
     } in
     let given = c.answers-sessions.ensures.given keys envelope heard of_ring has fits in
     let same : after_packet setting envelope server draw ≡ ended_among setting (takes_among setting envelope heard) =

@@ -1,9 +1,10 @@
-use Rattle.std.proofs.Common.{◌≡◌, ◌∙◌, ◌+◌, ◌≤◌, ℕ, true, None, Result, Ok, Err, List, length, ap, sym, subst, refl, arith}
+use Rattle.std.proofs.Common.{◌≡◌, ◌∙◌, ◌+◌, ◌≤◌, ℕ, true, None, Result, Ok, Err, List, length, map, ap, sym, subst, refl, arith}
 use Rattle.std.specs.List.{position}
 use Rattle.std.specs.Prelude.{IfOk, IsErrAnd, IsSome, OnErr}
 use Rattle.auth_keys.specs.declared.ring.RingKey.{RingKey}
 use Rattle.auth_keys.specs.Rings.{entry_of}
-use Rattle.inbox.specs.declared.judged.Judgement.{Judgement}
+use Rattle.inbox.specs.declared.judged.Judgement.{Judgement as BareJudgement}
+use Rattle.inbox.specs.Verdicts.{Judgement, bare_judgement}
 use Rattle.server_dispatch.specs.declared.dues.Due.{Due}
 use Rattle.server_dispatch.specs.Rings.{AreOf}
 use Rattle.waits.specs.Held.{Held}
@@ -29,7 +30,7 @@ use Rattle.server_core.proofs.Lists.{no-place}
 use Rattle.server_core.proofs.Names.{name-by}
 use Rattle.server_core.proofs.PacketDues.{are-due, same-numbers}
 use Rattle.server_core.proofs.Speaking.{kept-later, none-at, sessions-have_room}
-use Rattle.server_core.proofs.Taken.{due-few}
+use Rattle.server_core.proofs.Taken.{told-few}
 use Rattle.server_core.proofs.server.Server.takes_new.Goals as goal
 
 pub answers-sessions-requires : goal.answers-sessions-requires
@@ -128,28 +129,28 @@ returns-clause-given g c = λ keys server of stands order.
     (c.in_ok-standing.ensures.stands keys outer.salt outer.seq outer.body) c.in_ok-standing.ensures.drawn in
     let alone = c.one_session_stays_alone.ensures.heard setting envelope server draw room order.unfailed in
     let ordered = c.one_session_stays_in_order.ensures.heard setting envelope server draw order in
-    let judged_is : judged ≡ judged_of setting envelope session = c.in_ok-both.ensures.judged session is_heard.stands in
+    let told : List Judgement = judged_of setting envelope session in
+    let judged_is : judged ≡ map bare_judgement told = c.in_ok-both.ensures.judged session is_heard.stands in
     let after = c.in_ok-both.ensures.stands session (jobs_of name heard.speaker.jobs) is_heard.stands ordered in
     let has = judged-so setting envelope c.in_ok-others.others one c.judges_in_room.new.standing c.makes_place.new.jobs.jobs c.makes_place.new.jobs.jobs
     server.bindings c.judges_in_room.new.bindings.bindings c.new.new.draw judged heard is_heard after refl same_bindings judged_is alone ordered in
     let bodies = bodies_of setting envelope session in
     let due_is : taken.dues.items ≡ dues_in (mark_in session envelope.number) (message_in envelope) = c.in_ok-both.ensures.dues session is_heard.stands in
-    let J : List Judgement → Type 0 = λ judged. AreDue judged bodies taken.dues.items in
-    let E : List Due → Type 0 = λ dues. AreDue (judged_of setting envelope session) bodies dues in
-    let due : AreDue judged bodies taken.dues.items =
-    subst J (sym judged_is) (subst E (sym due_is) (are-due (way_of setting envelope session) (remembered session) (message_in envelope))) in
+    let E : List Due → Type 0 = λ dues. AreDue told bodies dues in
+    let due : AreDue told bodies taken.dues.items = subst E (sym due_is) (are-due (way_of setting envelope session) (remembered session) (message_in envelope)) in
+    let enough = told-few judged bodies taken.dues.items told judged_is due in
     let limit_is : taken.limit ≡ blocked_of name server.jobs + length taken.dues.items =
     c.in_ok-both.ensures.limit
     ∙ (ap (λ (name : Name). blocked_of name c.self.inside.jobs.jobs + length taken.dues.items) named_so
     ∙ ap (λ (jobs : Queue). blocked_of name jobs + length taken.dues.items) inside.jobs) in
-    let A : List Judgement → Type 0 = λ judged. are_numbered judged taken.dues.items ≡ true in
-    let N : List Due → Type 0 = λ dues. are_numbered (judged_of setting envelope session) dues ≡ true in
+    let A : List BareJudgement → Type 0 = λ judged. are_numbered judged taken.dues.items ≡ true in
+    let N : List Due → Type 0 = λ dues. are_numbered (map bare_judgement told) dues ≡ true in
     let fits : Fits setting envelope judged taken heard = record {
       due = due;
       numbered = subst A (sym judged_is) (subst N (sym due_is) (same-numbers (way_of setting envelope session) (remembered session) (message_in envelope)));
       few =
           fits-few (blocked_of name server.jobs) (blocked_of name heard.speaker.jobs) (length judged) (length taken.dues.items) taken.limit limit_is
-          (heard-blocked setting envelope (session_named name server.sessions) state) (due-few judged bodies taken.dues.items due);
+          (heard-blocked setting envelope (session_named name server.sessions) state) enough.1;
     } in
     let given = c.answers-sessions.ensures.given keys envelope heard of_ring has fits in
     let same : after_packet setting envelope server draw ≡ ended_among setting (takes_among setting envelope heard) =
