@@ -47,8 +47,8 @@ impl Keyed for Answered {
     }
 }
 
-/// How many entries have a key below this one, in an ascending order. Most keys are new, and above all, or the oldest, so the
-/// last and the first entry are looked at; else it is found by halving.
+/// How many entries have a key below this one, in an ascending order. Most keys are above all that are kept, or the oldest, so
+/// the last and the first entry are looked at; else it is found by halving.
 pub(crate) fn place_of<T: Keyed>(entries: &VecDeque<T>, key: u64) -> usize
     requires { Rises (map T.key_of entries.now.items) }
     ensures place { result ≡ place key (map T.key_of entries.now.items) }
@@ -67,7 +67,7 @@ pub(crate) fn place_of<T: Keyed>(entries: &VecDeque<T>, key: u64) -> usize
     entries.partition_point(|entry| entry.key() < key)
 }
 
-/// The place of the entry with this key in an ascending order, or how many entries there are. Found by halving.
+/// The place of the entry with this key in an ascending order, or how many entries there are. Found by `place_of`.
 pub(crate) fn find_key<T: Keyed>(entries: &VecDeque<T>, key: u64) -> usize
     requires { Rises (map T.key_of entries.now.items) }
     ensures { result ≡ position_or_len (λ entry. T.key_of entry == key) entries.now.items }
@@ -87,7 +87,7 @@ pub(crate) fn looked_for(replies: &VecDeque<Kept>, number: u64) -> Option<usize>
     replies.iter().position(|kept| kept.number == number)
 }
 
-/// The place of the first reply of this number, or how many replies there are. Found by halving where the numbers rise.
+/// The place of the first reply of this number, or how many replies there are. Found by `place_of` where the numbers rise.
 pub(crate) fn place_of_number(replies: &VecDeque<Kept>, rises: bool, number: u64) -> usize
     requires { rises ≡ true → Rises (map (λ kept. kept.number) replies.now.items) }
     ensures { result ≡ position_or_len (λ kept. kept.number == number) replies.now.items }

@@ -1,7 +1,8 @@
 //! What an event of one session owes, and its packets, in room that was taken before
 //! (core.telegram.org/mtproto/description, core.telegram.org/mtproto/service_messages). An `OutgoingMessages` is the list of
-//! messages that a session owes so far; `say` numbers what a server says, an `Outgoing`, and puts it behind the others. A `Packets`
-//! has the room for all packets of such a list, and `Outs` the room for what goes out. Only `new` takes memory.
+//! messages that a session owes so far; `say` numbers what a server says, an `Outgoing`, and puts it behind the others. A
+//! `Packets` has the room for all packets of such a list; a `Delivery` is a list with that room, and `send` seals its packets and
+//! puts them into an `Outs`. Only `new` takes memory.
 #![tactic(auto)]
 
 pub mod laws;

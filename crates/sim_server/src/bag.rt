@@ -180,6 +180,7 @@ impl Bag {
         ensures { self.new.made ≡ self.old.made ++ map made_of_out outs.items }
     {
         self.room = 0;
+        // No batch is without a packet: a place is found by the batch that it begins in.
         if outs.is_empty() {
             return;
         }

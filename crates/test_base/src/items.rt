@@ -10,7 +10,7 @@ use service_tl::laws::items_again;
 use service_tl::{FutureSalt, FutureSaltList, Item, Message, Messages, is_service, parse, write};
 use std::alloc::{AllocError, Global};
 use std::test::*;
-use test_asserts::{holds, same, shown, shows};
+use test_asserts::{holds, holds_at, same, shown, shows};
 use tl_codec::{IdList, Memory, Octets};
 
 // What is written of an item and parsed is that item.
@@ -85,7 +85,7 @@ fn is_spelt_so(alloc: Global, body: &[u8]) -> Result<bool, Memory> {
 
 /// The item that a body is, as `{:?}` shows it; it is written as the body.
 pub(crate) fn again(alloc: Global, body: &[u8]) -> Result<String, Fail> {
-    holds(is_spelt_so(alloc, body)?)?;
+    holds_at(body, is_spelt_so(alloc, body)?)?;
     read(alloc, body)
 }
 
@@ -105,7 +105,7 @@ pub(crate) fn anew(alloc: Global, body: &[u8]) -> Result<String, Fail> {
     Ok(text?)
 }
 
-// A body's hexadecimal digits, and the item that it is, as `{:?}` shows it.
+// What is asked, a body's hexadecimal digits, and the item that it is, as `{:?}` shows it.
 const ONE_OF_EACH: &str = "\
 again 016d5cf3040000000000000001020304 RpcResult { req_msg_id: 4, result: Octets { bytes: [1, 2, 3, 4] } }\n\
 again 016d5cf30400000000000000 RpcResult { req_msg_id: 4, result: Octets { bytes: [] } }\n\

@@ -17,11 +17,11 @@ use octets::{Memory, Octets};
 use std::alloc::Global;
 use std::marker::Model;
 use std::test::*;
-use test_asserts::{holds, same, shown, shows, tells};
+use test_asserts::{holds, holds_at, same, shown, shows, tells};
 
 // Where and why the container in message 100 isn't lawful.
 fn fault_of(alloc: Global, body: &[u8]) -> Result<Option<(u32, Why)>, Fail> {
-    holds(is_container(body))?;
+    holds_at(body, is_container(body))?;
     match unfold(alloc, 100, body) {
         Unfolded::Invalid { place, why } => Ok(Some((place, why))),
         Unfolded::Messages(_) => Ok(None),
@@ -125,7 +125,7 @@ impl Packer {
     }
 }
 
-// The digits of a container in message 100, and where and why it isn't lawful.
+// What is asked, the digits of a container in message 100, and where and why it isn't lawful.
 const FAULTS: &str = "\
 fault dcf8f173 Some((0, Short))\n\
 fault dcf8f17300000000 None\n\

@@ -103,6 +103,7 @@ fn told<D: Frames>(
     alloc: Global,
     stream: &[u8],
     size: usize,
+    digits: &str,
     due: &str,
 ) -> Result<String, Fail> {
     let want: &[u8] = if due.starts_with('1') {
@@ -111,15 +112,22 @@ fn told<D: Frames>(
         b""
     };
     let (count, same, fault) = read(frames, alloc, stream, size, want)?;
-    holds_at(due, same)?;
+    holds_at(digits, same)?;
     Ok(format!(in alloc; "{count} {fault:?}")?)
 }
 
 // The same for pieces of many sizes.
-fn are_told<D: Frames>(alloc: Global, padded: bool, stream: &[u8], due: &str) -> Result<(), Fail> {
+fn are_told<D: Frames>(
+    alloc: Global,
+    padded: bool,
+    stream: &[u8],
+    digits: &str,
+    due: &str,
+) -> Result<(), Fail> {
     for size in [1, 3, 7, 9, 16] {
-        let found = told(D::begin(alloc, padded), alloc, stream, size, due)?;
-        same_at(size, found.as_str(), due)?;
+        let frames = D::begin(alloc, padded);
+        let found = told(frames, alloc, stream, size, digits, due)?;
+        same_at((digits, size), found.as_str(), due)?;
     }
     Ok(())
 }
@@ -132,7 +140,7 @@ pub(crate) fn gives<D: Frames>(
     due: &str,
 ) -> Result<(), Fail> {
     let stream = bytes_of(alloc, digits)?;
-    let done = are_told::<D>(alloc, padded, stream.as_slice(), due);
+    let done = are_told::<D>(alloc, padded, stream.as_slice(), digits, due);
     drop(stream);
     done
 }

@@ -95,7 +95,7 @@ pub(crate) fn is_bad(alloc: Global, text: &str, want: &str) -> Result<(), Fail> 
     let lines = lines_of(alloc, text)?;
     let line = bad_line(alloc, lines.as_str());
     drop(lines);
-    same_at(text, line?, want.parse::<u32>().ok())
+    same_at(text, line?, Some(want.parse::<u32>()?))
 }
 
 #[test]
