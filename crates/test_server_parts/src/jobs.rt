@@ -101,7 +101,6 @@ fn asked(jobs: &Jobs, alloc: Global, step: Step<'_>) -> Result<String, Fail> {
         "len" => number(alloc, jobs.len() as u64),
         "at" => number(alloc, ready_number(jobs, first as usize)),
         "load" => load(jobs, alloc, first),
-        "waiting" => number(alloc, jobs.waiting(1, first) as u64),
         "blocked" => number(alloc, jobs.blocked(1, first) as u64),
         "has" => number(alloc, u64::from(jobs.has(1, first, second))),
         "overdue" => overdue(jobs, alloc, first, second),
@@ -241,7 +240,6 @@ call 1 12 = 1\n\
 call 1 16 8 12 = 1\n\
 ready = 2\n\
 load 1 = 3 28\n\
-waiting 1 = 1\n\
 at 0 = 8\n\
 at 1 = 12\n\
 at 2 = 0\n\
@@ -251,7 +249,6 @@ settle 1 8 1\n\
 ready = 0\n\
 load 1 = 1 12\n\
 settle 1 12 1\n\
-waiting 1 = 0\n\
 ready = 1\n\
 next = 16\n\
 len = 0\n\
@@ -261,7 +258,6 @@ call 1 12 = 1\n\
 call 1 16 8 12 = 1\n\
 ready = 2\n\
 load 1 = 3 28\n\
-waiting 1 = 1\n\
 at 0 = 8\n\
 at 1 = 12\n\
 at 2 = 0\n\
@@ -271,7 +267,6 @@ settle 1 12 1\n\
 ready = 0\n\
 load 1 = 1 12\n\
 settle 1 8 1\n\
-waiting 1 = 0\n\
 ready = 1\n\
 next = 16\n\
 len = 0\n";
@@ -361,7 +356,6 @@ next = 8\n\
 cancel 3 12 = 12\n\
 forget 2\n\
 len = 78\n\
-waiting 2 = 0\n\
 has 2 400 = 0\n\
 call 2 404 408 = 1\n\
 settle 2 408 1\n\
