@@ -60,8 +60,8 @@ pub(crate) struct PacketRoom {
 }
 
 impl Core {
-    /// Takes room for a packet of what waits: for the bytes that may go, worked out first, and no more; and for at least as many
-    /// numbers.
+    /// Takes room for a packet of what waits: for the bytes that may go, worked out first, and no more; and at least for the
+    /// numbers of what may go.
     fn packet_room(&self, alloc: Global) -> Result<PacketRoom, Memory>
         ensures no_acks { IfOk result (λ room. (room.acks.items ≡ []) × (vec_len room.acks ≡ 0)) }
         ensures acks { IfOk result (λ room. length self.now.calls.acks ≤ vec_capacity room.acks) }
