@@ -18,7 +18,6 @@ use draws::{Draw, Seeded};
 use envelope::MtSeal;
 use key_files::{KeysFault, read_ring, refused_line, unread_line};
 use mt_edge::{Clock, KeyFiles, Net, Sink};
-use server_core::order_laws::events_keep_order;
 use server_core::{Plain, Server};
 use statuses::Status;
 use std::alloc::Global;
@@ -131,7 +130,6 @@ fn without_journal<O: Sink, N: Net, C: Clock, D: Draw>(
         (record { before = draw.old; after = draw.new }) result }
 {
     rings_say_as_worked_out();
-    events_keep_order::<D>();
     if let Err(status) = listen(lines, options.port, out, net) {
         return status;
     }

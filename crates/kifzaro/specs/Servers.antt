@@ -11,7 +11,7 @@ use Rattle.server_rules.specs.Answer.{Answer, after_work}
 use Rattle.server_rules.specs.Event.{Setting}
 use Rattle.server_rules.specs.Server.{Server}
 use Rattle.server_core.specs.declared.desk.Heard.TheVariants.{Judged, NotOpened}
-use Rattle.server_core.specs.Desks.{IsBetweenEvents, request_at}
+use Rattle.server_core.specs.Desks.{request_at}
 use Rattle.server_core.specs.Packets.{IsHeardOf}
 use Rattle.server_core.specs.Server as core
 use Rattle.waits.specs.Jobs.{Queue}
@@ -35,9 +35,8 @@ handed_out true jobs = request_at 0 jobs
 handed_out false jobs = None
 
 -- it is this server of the rules, which is in order and within its limits
-pub record Is (kept : Kept) (server : Server) : Type 0 where
-  pub stands : core.Stands kept.server server
-  pub order : IsBetweenEvents server
+abbrev pub Is : Kept → Server → Type 0
+Is kept server = core.StandsFor kept.server server
 
 -- After an event it is the server that the rules say, its draw is theirs, and behind the packets that waited before stands
 -- each packet of the event, sealed, in order. No request waits for its answer.

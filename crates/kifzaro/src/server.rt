@@ -1,12 +1,11 @@
 //! A server.
 
-ghost use Rattle.std.specs.Prelude.{◌≡◌, ◌<◌, ◌≤◌, ◌↔◌, ◌∷◌, ℕ, List, None, Some, Ok, [], Err, IfErr, IfOk, IfSome, IsTrue, MatchOption, OnErr, OnOk, is_some, max, true};
+ghost use Rattle.std.specs.Prelude.{◌≡◌, ◌<◌, ◌↔◌, ◌∷◌, ℕ, List, None, Some, Ok, [], Err, IfErr, IfOk, IfSome, IsTrue, MatchOption, OnErr, OnOk, is_some, max, true};
 ghost use Rattle.auth_keys.specs.KeyFile.{IsRingOf};
 ghost use Rattle.envelope.specs.declared.parts.Dir.TheVariants.{Up};
 ghost use Rattle.envelope.specs.declared.parts.Envelope.{Envelope as Sealed};
 ghost use Rattle.envelope.specs.Lock.{mt_lock};
 ghost use Rattle.envelope.specs.Opening.{Opens};
-ghost use Rattle.msg_ids.specs.Moments.{latest_moment};
 ghost use Rattle.server_core.specs.Desks.{request_at};
 ghost use Rattle.server_core.specs.Packets.{brought_in};
 ghost use Rattle.server_dispatch.specs.Rings.{AreOf};
@@ -34,10 +33,8 @@ use envelope::MtSeal;
 use law_server_replay::laws::events_draw_words;
 use msg_ids::Moment;
 use octets::Memory;
-use server_core::order_laws::{events_keep_order, runs_keep_order};
 use server_core::{Heard, Server as Core, SessionName};
 use server_output::Out;
-use server_session::laws::sessions_stand_later;
 use std::alloc::Global;
 use std::marker::Model;
 
@@ -86,7 +83,6 @@ impl Server {
         ensures nothing_waits { IfOk result (λ server. (server.waiting ≡ []) × (server.asked ≡ None)) }
         ensures refused { IfErr result (IsKeysError keys.now) }
     {
-        events_keep_order::<ChaChaDraw>();
         Ok(Server {
             server: Core::new(alloc, seal_of(alloc, keys)?),
             words: Words::new(seed),
@@ -124,10 +120,7 @@ impl Server {
         ensures stays { (server : Rules) → Is self.old server → StaysAt (max self.old.server.moment now) server self.new result }
         ensures same_ring { self.new.server.seal ≡ self.old.server.seal }
     {
-        events_keep_order::<ChaChaDraw>();
-        events_draw_words::<ChaChaDraw, Given>();
-        sessions_stand_later();
-        is_early(now);
+        events_draw_words::<ChaChaDraw, ()>();
         if self.asked {
             return Err(Error::Busy);
         }
@@ -162,9 +155,7 @@ impl Server {
         ensures stays { (server : Rules) → Is self.old server → OnErr result (Is self.new server) }
         ensures same_ring { self.new.server.seal ≡ self.old.server.seal }
     {
-        events_keep_order::<ChaChaDraw>();
         events_draw_words::<ChaChaDraw, Given>();
-        is_early(now);
         if self.asked {
             return Err(Error::Busy);
         }
@@ -196,9 +187,7 @@ impl Server {
         ensures stays { (server : Rules) → Is self.old server → OnErr result (Is self.new server) }
         ensures same_ring { self.new.server.seal ≡ self.old.server.seal }
     {
-        events_keep_order::<ChaChaDraw>();
         events_draw_words::<ChaChaDraw, Given>();
-        is_early(now);
         if self.asked {
             return Err(Error::Busy);
         }
@@ -233,7 +222,6 @@ impl Server {
         ensures unchanged { OnErr result (self.new ≡ self.old) }
         ensures same_ring { self.new.server.seal ≡ self.old.server.seal }
     {
-        events_keep_order::<ChaChaDraw>();
         if self.asked {
             return Err(Error::Busy);
         }
@@ -300,9 +288,7 @@ impl Server {
         ensures stays { (server : Rules) → Is self.old server → OnErr result (Is self.new server) }
         ensures same_ring { self.new.server.seal ≡ self.old.server.seal }
     {
-        runs_keep_order::<ChaChaDraw, Given>();
         events_draw_words::<ChaChaDraw, Given>();
-        is_early(now);
         if !self.asked {
             return Err(Error::NotAsked);
         }
@@ -373,11 +359,4 @@ impl Server {
             None => Err(Error::NotAsked),
         }
     }
-}
-
-// A moment is at most the latest one. Does nothing.
-fn is_early(now: Moment)
-    ensures { now ≤ latest_moment }
-{
-    let _ = now.seconds();
 }

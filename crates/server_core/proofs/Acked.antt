@@ -20,8 +20,8 @@ use Rattle.server_rules.specs.Answer.{after_packet, is_spent, name_in, without_s
 use Rattle.law_server_bounds.specs.Taking.{IsAcknowledged}
 use Rattle.server_core.specs.declared.effects.Effects.{Effects}
 use Rattle.server_core.specs.Acceptance.{Acknowledges, IsAcceptedBy, WasTaken}
-use Rattle.server_core.specs.Effects.{Gives}
-use Rattle.server_core.specs.Server.{Kept}
+use Rattle.server_core.specs.Desks.{Does}
+use Rattle.server_core.specs.Server.{Kept, StandsFor}
 use Rattle.server_core.proofs.Names.{found-named, names-same, none-some, same-names}
 use Rattle.server_core.proofs.One.{sends-name}
 
@@ -285,7 +285,7 @@ module _ {S : Type 0} (setting : Setting S) where
 
 -- what an event gives in which a message was accepted
 pub was-taken : {S D : Type 0} (lock : Lock) (keys : List RingKey) (setting : Setting D) (envelope : Envelope) (server : Server) (draw : D) (session : Session) (kept : Kept S) (drawn : D) (effects : Effects)
-    → Gives lock keys kept drawn effects (after_packet setting envelope server draw)
+    → Does (StandsFor kept) lock keys drawn effects (after_packet setting envelope server draw)
     → IsAcceptedBy setting envelope server draw session (after_packet setting envelope server draw).server
     → (is_odd envelope.seq ≡ true → (one : Sent) × Contains (after_packet setting envelope server draw).packets one × Acknowledges (name_in envelope) envelope.number one)
     → WasTaken lock keys setting envelope server draw session kept effects

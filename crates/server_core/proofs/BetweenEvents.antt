@@ -8,12 +8,13 @@ use Rattle.waits.specs.Jobs.{AreWithinLimits, ready_job}
 use Rattle.regs_service.specs.Served.{Step}
 use Rattle.server_rules.specs.Server.{Name, Server, Session, kept_replies}
 use Rattle.server_rules.specs.Event.{Envelope, Setting}
-use Rattle.server_rules.specs.Events.{Course, Event, Attach, Packet, Tick, Work, after_event, worked}
-use Rattle.server_rules.specs.Answer.{Answer, after_attach, after_packet, after_run, after_tick, after_work}
+use Rattle.server_rules.specs.Events.{Course, Event, Attach, Loss, Packet, Restart, Tick, Work, after_event, worked}
+use Rattle.server_rules.specs.Answer.{Answer, after_attach, after_loss, after_packet, after_restart, after_run, after_tick, after_work}
 use Rattle.law_server_bounds.specs.Giving as bounds
 use Rattle.law_server_bounds.specs.Runs.{IsShortRun}
 use Rattle.law_server.specs.Order.{AreOrdered}
-use Rattle.server_core.specs.Desks.{GivesFew, IsBetweenEvents, IsShortRunAt}
+use Rattle.server_core.specs.Desks.{GivesFew, IsShortRunAt}
+use Rattle.server_core.specs.Server.{IsBetweenEvents}
 
 abbrev pub IsOrdered : Server → Type 0
 IsOrdered server = AreOrdered server.sessions server.jobs
@@ -144,6 +145,18 @@ run-keeps keeps setting place serve service server draw early short is =
     between server (after_work setting place serve service server draw).0
     (rw (run-moment setting place (ready_job place server.jobs) serve service server draw) early)
     (run-holds keeps setting place serve service server draw early short is)
+
+pub loss-keeps : {S V : Type 0} (keeps : Keeps S V) (setting : Setting S) (service : V) (draw : S) (name : Name) (server : Server)
+    → IsBetweenEvents server → IsBetweenEvents (after_loss name server)
+loss-keeps keeps setting service draw name server is =
+    let done = ends keeps setting idle service server draw (Loss name) is tt in
+    record { at = is.at; order = done.order; replies = done.replies; jobs = done.jobs }
+
+pub restart-keeps : {S V : Type 0} (keeps : Keeps S V) (setting : Setting S) (service : V) (draw : S) (server : Server)
+    → IsBetweenEvents server → IsBetweenEvents (after_restart server)
+restart-keeps keeps setting service draw server is =
+    let done = ends keeps setting idle service server draw Restart is tt in
+    record { at = is.at; order = done.order; replies = done.replies; jobs = done.jobs }
 
 -- ---- and gives few
 

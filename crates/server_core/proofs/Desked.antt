@@ -1,63 +1,67 @@
 -- What a server's event is as a desk's.
-use Rattle.std.proofs.Common.{◌≡◌, ◌≤◌, ℕ, List, max, sym, subst, refl, arith}
+use Rattle.std.proofs.Common.{◌≡◌, ◌≤◌, ℕ, List, Result, Ok, Err, max, sym, subst, refl}
+use Rattle.std.specs.Prelude.{IfOk, OnOk}
 use Rattle.auth_keys.specs.declared.ring.RingKey.{RingKey}
 use Rattle.envelope.specs.Packet.{Lock}
-use Rattle.msg_ids.specs.Moments.{latest_moment}
 use Rattle.server_rules.specs.Answer.{Answer}
 use Rattle.server_rules.specs.Server.{Server}
 use Rattle.server_core.specs.declared.desk.Reply.{Reply}
 use Rattle.server_core.specs.declared.effects.Effects.{Effects}
-use Rattle.server_core.specs.Desks.{Does, DoesNothing, IsBetweenEvents}
+use Rattle.server_core.specs.Desks.{Does, DoesNothing}
 use Rattle.server_core.specs.Effects.{Gives}
 use Rattle.server_core.specs.Packets.{NothingIsDone}
-use Rattle.server_core.specs.Server.{Kept, Stands}
+use Rattle.server_core.specs.Server.{IsBetweenEvents, Kept, Stands, StandsFor}
 use Rattle.server_core.proofs.Speaking.{StandsLater, kept-later}
 
--- a kept server stands for this one between its events
-abbrev pub StandsBetween : {S : Type 0} → Kept S → Server → Type 0
-StandsBetween kept server = Stands kept server × IsBetweenEvents server
+does-so : {S D : Type 0} (lock : Lock) (keys : List RingKey) (kept : Kept S) (draw : D) (effects : Effects) (answer : Answer D)
+    → IsBetweenEvents answer.server → Gives lock keys kept draw effects answer → Does (StandsFor kept) lock keys draw effects answer
+does-so lock keys kept draw effects answer between gives = record {
+  stands = record { stands = gives.stands; between = between };
+  drawn = gives.drawn;
+  sent = gives.sent;
+  entered = gives.entered;
+}
 
-max-early : (one other : ℕ) → one ≤ latest_moment → other ≤ latest_moment → max one other ≤ latest_moment
-max-early one other first second = omega (arith, first, second)
+-- what an event gives, where it leaves a server between events
+pub does : (S D : Type 0) {A E : Type 0} (lock : Lock) (keys : List RingKey) (kept : Kept S) (draw : D) (effects : A → Effects) (answer : Answer D) (result : Result A E)
+    → IsBetweenEvents answer.server → IfOk result (λ done. Gives lock keys kept draw (effects done) answer)
+    → IfOk result (λ done. Does (StandsFor kept) lock keys draw (effects done) answer)
+does S D lock keys kept draw effects answer (Ok done) between gives = does-so lock keys kept draw (effects done) answer between gives
+does S D lock keys kept draw effects answer (Err error) between gives = tt
 
--- an event, of which the moment is the greatest that was given
-pub does : {S D : Type 0} (lock : Lock) (keys : List RingKey) (kept : Kept S) (draw : D) (effects : Effects) (answer : ℕ → Answer D) (moment now : ℕ) (server : Server)
-    → moment ≡ server.now → now ≤ latest_moment → IsBetweenEvents server
-    → ((at : ℕ) → at ≤ latest_moment → IsBetweenEvents (answer at).server)
-    → Gives lock keys kept draw effects (answer (max moment now)) → Does (StandsBetween kept) lock keys draw effects (answer (max server.now now))
-does lock keys kept draw effects answer moment now server same early is keeps gives =
-    let given : Gives lock keys kept draw effects (answer (max server.now now)) =
-    subst (λ (moment : ℕ). Gives lock keys kept draw effects (answer (max moment now))) same gives in
-    record {
-      stands = (given.stands, keeps (max server.now now) (max-early server.now now is.at early));
-      drawn = given.drawn;
-      sent = given.sent;
-      entered = given.entered;
-    }
+-- and where it leaves one so only if something holds of it
+pub does-where : (S D : Type 0) {A E : Type 0} (P : Type 0) (lock : Lock) (keys : List RingKey) (kept : Kept S) (draw : D) (effects : A → Effects) (answer : Answer D) (result : Result A E)
+    → OnOk result P → (P → IsBetweenEvents answer.server) → IfOk result (λ done. Gives lock keys kept draw (effects done) answer)
+    → IfOk result (λ done. Does (StandsFor kept) lock keys draw (effects done) answer)
+does-where S D P lock keys kept draw effects answer (Ok done) holds between gives = does-so lock keys kept draw (effects done) answer (between holds) gives
+does-where S D P lock keys kept draw effects answer (Err error) holds between gives = tt
 
--- a packet that doesn't open
-pub does-nothing : {S D : Type 0} → StandsLater → (before after : Kept S) (draw drawn : D) (reply : Reply) (now : ℕ) (server : Server)
-    → now ≤ latest_moment → StandsBetween before server → NothingIsDone (max before.moment now) before after draw drawn reply
-    → DoesNothing (StandsBetween after) draw drawn reply (record server { now = max server.now now })
-does-nothing {S} later before after draw drawn reply now server early (stands, is) nothing =
-    let moment = max before.moment now in
-    let le : before.moment ≤ moment = omega arith in
-    let stood : Stands (record before { moment = moment }) (record server { now = moment }) =
-    record {
+-- a server to which nothing happened but that time went on
+pub stands-later : {S : Type 0} → StandsLater → (before after : Kept S) (moment : ℕ) (server : Server) → before.moment ≤ moment → after ≡ record before { moment = moment }
+    → Stands before server → Stands after (record server { now = moment })
+stands-later {S} later before after moment server le same stands =
+    subst (λ (kept : Kept S). Stands kept (record server { now = moment })) (sym same)
+    (record {
       moment = refl;
       sessions = kept-later later before.moment moment before.sessions server.sessions le stands.sessions;
       jobs = stands.jobs;
       bindings = stands.bindings;
-    }
-    in
-    let at_its : Stands (record before { moment = moment }) (record server { now = max server.now now }) =
-    subst (λ (own : ℕ). Stands (record before { moment = moment }) (record server { now = max own now })) stands.moment stood in
-    record {
-      stands = (
-        subst (λ (kept : Kept S). Stands kept (record server { now = max server.now now })) (sym nothing.same) at_its,
-        record { at = max-early server.now now is.at early; order = is.order; replies = is.replies; jobs = is.jobs },
-      );
-      drawn = nothing.drawn;
-      sent = nothing.sent;
-      entered = nothing.entered;
-    }
+    })
+
+-- so is a packet that doesn't open
+pub stays : {S : Type 0} {A E : Type 0} → StandsLater → (before after : Kept S) (moment : ℕ) (server : Server) (result : Result A E) → before.moment ≤ moment
+    → OnOk result (after ≡ record before { moment = moment }) → IsBetweenEvents (record server { now = moment }) → StandsFor before server
+    → OnOk result (StandsFor after (record server { now = moment }))
+stays later before after moment server (Ok done) le same between is = record { stands = stands-later later before after moment server le same is.stands; between = between }
+stays later before after moment server (Err error) le same between is = tt
+
+-- a desk's packet that doesn't open
+pub does-nothing : {S D : Type 0} (before after : Kept S) (draw drawn : D) (reply : Reply) (now : ℕ) (server : Server) → before.moment ≡ server.now
+    → StandsFor after (record server { now = max before.moment now }) → NothingIsDone (max before.moment now) before after draw drawn reply
+    → DoesNothing (StandsFor after) draw drawn reply (record server { now = max server.now now })
+does-nothing before after draw drawn reply now server same stands nothing = record {
+  stands = subst (λ (own : ℕ). StandsFor after (record server { now = max own now })) same stands;
+  drawn = nothing.drawn;
+  sent = nothing.sent;
+  entered = nothing.entered;
+}

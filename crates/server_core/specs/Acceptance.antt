@@ -22,7 +22,7 @@ use Rattle.server_rules.specs.Server.{Binding, Name, Reply, Server, Session, nam
 use Rattle.server_rules.specs.Speaking.{bad_body, encrypted_message_invalid, packed_body_refused}
 use Rattle.law_server.specs.Order.{WasAccepted}
 use Rattle.server_core.specs.declared.effects.Effects.{Effects}
-use Rattle.server_core.specs.Server.{Kept, Stands}
+use Rattle.server_core.specs.Server.{Kept, StandsFor}
 
 -- ---- an acknowledgement
 
@@ -109,7 +109,7 @@ pub record IsAcceptedBy {S : Type 0} (setting : Setting S) (envelope : Envelope)
 pub record WasTaken {S D : Type 0} (lock : Lock) (keys : List RingKey) (setting : Setting D) (envelope : Envelope) (before : Server) (draw : D) (session : Session) (kept : Kept S) (effects : Effects) : Type 0 where
   -- what is kept stands for this server, in which it was accepted
   pub server : Server
-  pub stands : Stands kept server
+  pub stands : StandsFor kept server
   pub accepted : IsAcceptedBy setting envelope before draw session server
   -- these packets went out, and where its seq is odd, one of them acknowledges it
   pub packets : List Sent

@@ -1,29 +1,18 @@
 -- What a desk does: the events of a server, with what it draws from.
-use Rattle.std.specs.Prelude.{◌≡◌, ◌≤◌, ℕ, ◌+◌, All, Option, Some, option_map, Result, Ok, Err, List, [], length}
+use Rattle.std.specs.Prelude.{◌≡◌, ◌≤◌, ℕ, ◌+◌, Option, Some, option_map, Result, Ok, Err, List, [], length}
 use Rattle.auth_keys.specs.declared.ring.RingKey.{RingKey}
 use Rattle.envelope.specs.Packet.{Lock}
-use Rattle.msg_ids.specs.Moments.{latest_moment}
 use Rattle.mt_edge.specs.Faults.{Rose}
-use Rattle.outbox.specs.Replies.{IsWithin}
 use Rattle.server_output.specs.Outs.{AreSent}
 use Rattle.regs_service.specs.Served.{Step, reply_bytes_max}
 use Rattle.waits.specs.declared.job.Job.{Job}
-use Rattle.waits.specs.Jobs.{AreWithinLimits, Queue, ready_job}
+use Rattle.waits.specs.Jobs.{Queue, ready_job}
 use Rattle.server_rules.specs.Answer.{Answer}
-use Rattle.server_rules.specs.Server.{Server, kept_replies}
-use Rattle.law_server.specs.Order.{AreOrdered}
+use Rattle.server_rules.specs.Server.{Server}
 use Rattle.server_core.specs.declared.desk.DeskFault.{DeskFault}
 use Rattle.server_core.specs.declared.desk.DeskFault.TheVariants as faults
 use Rattle.server_core.specs.declared.desk.Reply.{Reply}
 use Rattle.server_core.specs.declared.effects.Effects.{Effects}
-
--- What holds of a server between events: it was given a moment that there is, its sessions, replies and jobs fit each
--- other, and no session keeps more replies or has more unfinished jobs than it may.
-pub record IsBetweenEvents (server : Server) : Type 0 where
-  pub at : server.now ≤ latest_moment
-  pub order : AreOrdered server.sessions server.jobs
-  pub replies : All (λ session. IsWithin (kept_replies session.replies)) server.sessions
-  pub jobs : AreWithinLimits server.jobs
 
 -- the request of the ready job of this place among the ready ones, where there is one
 abbrev pub request_at : ℕ → Queue → Option (List ℕ)

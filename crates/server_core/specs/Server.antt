@@ -2,9 +2,12 @@
 use Rattle.std.specs.Prelude.{◌≡◌, ◌≤◌, ℕ, Bool, if◌then◌else◌, List, length, All, IsSome}
 use Rattle.auth_keys.specs.declared.ring.RingKey.{RingKey}
 use Rattle.auth_keys.specs.Rings.{entry_of}
-use Rattle.waits.specs.Jobs.{Queue, without_session}
-use Rattle.server_rules.specs.Server.{Binding, Name, Server, sessions_max}
+use Rattle.msg_ids.specs.Moments.{latest_moment}
+use Rattle.outbox.specs.Replies.{IsWithin}
+use Rattle.waits.specs.Jobs.{AreWithinLimits, Queue, without_session}
+use Rattle.server_rules.specs.Server.{Binding, Name, Server, kept_replies, sessions_max}
 use Rattle.server_rules.specs.Answer.{room_min}
+use Rattle.law_server.specs.Order.{AreOrdered}
 use Rattle.server_session.specs.declared.session.SessionState.{SessionState}
 use Rattle.server_session.specs.SessionState.{IsAt, key_of, numbers_left}
 use Rattle.server_core.specs.Sessions.{AreKept, without_kept}
@@ -30,13 +33,26 @@ pub record IsSound (keys : List RingKey) (moment : ℕ) (standings : List Sessio
   pub few : length standings ≤ sessions_max
   pub speaking : All (CanSpeak keys moment) standings
 
--- It stands for a server of the definitions.
+-- What is kept matches a server of the definitions, whether that is in order or not; `StandsFor` adds that it is.
 pub record Stands {S : Type 0} (kept : Kept S) (server : Server) : Type 0 where
   pub moment : kept.moment ≡ server.now
   -- each session that is kept stands for one of the server's, in order
   pub sessions : AreKept kept.moment kept.sessions server.sessions
   pub jobs : kept.jobs ≡ server.jobs
   pub bindings : kept.bindings ≡ server.bindings
+
+-- What holds of a server between events: it was given a moment that there is, its sessions, replies and jobs fit each
+-- other, and no session keeps more replies or has more unfinished jobs than it may.
+pub record IsBetweenEvents (server : Server) : Type 0 where
+  pub at : server.now ≤ latest_moment
+  pub order : AreOrdered server.sessions server.jobs
+  pub replies : All (λ session. IsWithin (kept_replies session.replies)) server.sessions
+  pub jobs : AreWithinLimits server.jobs
+
+-- It stands for a server of the definitions, which is between events.
+pub record StandsFor {S : Type 0} (kept : Kept S) (server : Server) : Type 0 where
+  pub stands : Stands kept server
+  pub between : IsBetweenEvents server
 
 -- the sessions and the jobs without those of this name, where this is so
 

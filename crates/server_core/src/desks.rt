@@ -11,8 +11,9 @@ ghost use Rattle.server_rules.specs.Answer.{after_attach, after_packet, after_ti
 ghost use Rattle.server_rules.specs.Server.{Server as Rules};
 ghost use Rattle.server_session.specs.Says.{Keys, setting_of};
 ghost use Rattle.server_core.specs.declared.desk.DeskFault.TheVariants as faults;
-ghost use Rattle.server_core.specs.Desks.{Counts, Does, DoesNothing, IsBetweenEvents, frame_bytes_max};
+ghost use Rattle.server_core.specs.Desks.{Counts, Does, DoesNothing, frame_bytes_max};
 ghost use Rattle.server_core.specs.Packets.{IsHeardOf, brought_in, effects_in};
+ghost use Rattle.server_core.specs.Server.{IsBetweenEvents};
 
 use crate::desk::{DeskFault, Reply};
 use crate::effects::Effects;

@@ -1,6 +1,6 @@
 //! A server of sessions (core.telegram.org/mtproto/description, core.telegram.org/mtproto/service_messages). A `Server` keeps
 //! what its events need of its sessions, their unfinished jobs and the bindings of temporary keys. It stands for a server of
-//! the definitions (`Stands`), and each event makes it stand for what the definitions say of that event.
+//! the definitions that is between events (`StandsFor`), and each event makes it stand for what the definitions say of that event.
 #![tactic(auto)]
 
 mod among_others;

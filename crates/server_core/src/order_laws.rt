@@ -4,12 +4,13 @@ ghost use Rattle.std.specs.Prelude.{◌<◌, ◌≤◌, ℕ, length};
 ghost use Rattle.msg_ids.specs.Moments.{latest_moment};
 ghost use Rattle.regs_service.specs.Served.{Step};
 ghost use Rattle.waits.specs.Jobs.{ready_count};
-ghost use Rattle.server_rules.specs.Answer.{after_attach, after_packet, after_tick, after_work};
+ghost use Rattle.server_rules.specs.Answer.{after_attach, after_loss, after_packet, after_restart, after_tick, after_work};
 ghost use Rattle.server_rules.specs.Event.{Envelope, Setting};
 ghost use Rattle.server_rules.specs.Server.{Name, Server, fresh_server};
-ghost use Rattle.server_core.specs.Desks.{GivesFew, IsBetweenEvents, IsShortRunAt};
+ghost use Rattle.server_core.specs.Desks.{GivesFew, IsShortRunAt};
+ghost use Rattle.server_core.specs.Server.{IsBetweenEvents};
 
-use draws::Draw;
+use draws::{Draw, StepDraw};
 use law_server::laws::servers_stay_in_order;
 use law_server_bounds::laws as bounds;
 
@@ -39,6 +40,18 @@ pub fn runs_keep_order<D: Draw, V>()
     bounds::replies_are_few::<D, V>();
     bounds::jobs_are_few::<D, V>();
     bounds::events_give_few::<D, V>();
+}
+
+/// So is one that lost a session or that started again, and one to which nothing happened but that time went on.
+pub fn losses_keep_order()
+    ensures loss { (name : Name) (server : Server) → IsBetweenEvents server → IsBetweenEvents (after_loss name server) }
+    ensures restart { (server : Server) → IsBetweenEvents server → IsBetweenEvents (after_restart server) }
+    ensures later { (now : ℕ) (server : Server) → now ≤ latest_moment → IsBetweenEvents server → IsBetweenEvents (record server { now = now }) }
+{
+    servers_stay_in_order::<StepDraw, StepDraw>();
+    bounds::replies_are_few::<StepDraw, StepDraw>();
+    bounds::jobs_are_few::<StepDraw, StepDraw>();
+    bounds::events_give_few::<StepDraw, StepDraw>();
 }
 
 /// A packet, a tick and an attach give at most 8,192 packets more than there were unfinished jobs in a server that was in

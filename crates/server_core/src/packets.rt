@@ -17,7 +17,8 @@ ghost use Rattle.server_core.specs.declared.desk.Heard.TheVariants.{Judged, NotO
 ghost use Rattle.server_core.specs.Acceptance.{WasTaken};
 ghost use Rattle.server_core.specs.Effects.{Gives};
 ghost use Rattle.server_core.specs.Packets.{IsHeardOf, NothingIsDone, brought, brought_in, effects_in};
-ghost use Rattle.server_core.specs.Server.{Stands};
+ghost use Rattle.server_core.specs.Desks.{Does};
+ghost use Rattle.server_core.specs.Server.{Stands, StandsFor};
 ghost use Rattle.server_core.specs.Sessions.{is_kept_as};
 
 use crate::desk::{Heard, Reply};
@@ -27,9 +28,10 @@ use crate::laws::{
     acceptable_messages_are_accepted, acknowledgements_go_out, one_session_stays_alone,
     one_session_stays_in_order, one_session_takes,
 };
+use crate::order_laws::{events_keep_order, losses_keep_order};
 use crate::packet_answers::JudgedPacket;
 use crate::room::judges_in_room;
-use crate::server::Server;
+use crate::server::{Server, is_early};
 use crate::session_name::SessionName;
 use draws::Draw;
 use envelope::{Dir, Envelope, Opened, Refusal, Seal};
@@ -61,15 +63,17 @@ impl<S: Seal> Server<S> {
         ensures heard { IfOk result (λ reply. IsHeardOf S.lock (S.keys self.old.seal) (max self.old.moment now) packet.now reply.heard) }
         ensures refused { (refusal : Refused) → IsRefused S.lock (S.keys self.old.seal) (max self.old.moment now) Up packet.now refusal
             → IfOk result (NothingIsDone (max self.old.moment now) self.old self.new draw.old draw.new) }
-        ensures given { (keys : Keys) (server : Rules) (envelope : Sealed) → AreOf (S.keys self.old.seal) keys → Stands self.old server
-            → AreOrdered server.sessions server.jobs → Opens S.lock (S.keys self.old.seal) (max self.old.moment now) Up packet.now envelope
-            → IfOk result (λ reply. Gives S.lock (S.keys self.old.seal) self.new draw.new (effects_in reply)
+        ensures stays { (server : Rules) (refusal : Refused) → StandsFor self.old server → IsRefused S.lock (S.keys self.old.seal) (max self.old.moment now) Up packet.now refusal
+            → OnOk result (StandsFor self.new (record server { now = max self.old.moment now })) }
+        ensures given { (keys : Keys) (server : Rules) (envelope : Sealed) → AreOf (S.keys self.old.seal) keys → StandsFor self.old server
+            → Opens S.lock (S.keys self.old.seal) (max self.old.moment now) Up packet.now envelope
+            → IfOk result (λ reply. Does (StandsFor self.new) S.lock (S.keys self.old.seal) draw.new (effects_in reply)
             (after_packet (setting_of (max self.old.moment now) D.step keys) (brought_in envelope) server draw.old)) }
         // The message of an envelope that nothing refuses is accepted in this event: where its seq is odd a packet that goes out
         // acknowledges it, and its session, where that has room for a further event, is kept and has its number as an accepted one,
         // and its call as a job, or with the answer that the table or the rules on waiting say.
-        ensures accepted { (keys : Keys) (server : Rules) (envelope : Sealed) (session : Session) → AreOf (S.keys self.old.seal) keys → Stands self.old server
-            → AreOrdered server.sessions server.jobs → Opens S.lock (S.keys self.old.seal) (max self.old.moment now) Up packet.now envelope
+        ensures accepted { (keys : Keys) (server : Rules) (envelope : Sealed) (session : Session) → AreOf (S.keys self.old.seal) keys → StandsFor self.old server
+            → Opens S.lock (S.keys self.old.seal) (max self.old.moment now) Up packet.now envelope
             → session_named (name_in (brought_in envelope))
             (heard_in (setting_of (max self.old.moment now) D.step keys) (brought_in envelope) (begun server draw.old)).sessions ≡ Some session
             → IsAcceptable (max self.old.moment now) session.salts envelope.salt (remembered session) (message_in (brought_in envelope))
@@ -83,7 +87,10 @@ impl<S: Seal> Server<S> {
         acceptable_messages_are_accepted::<D>();
         lawful_messages_are_taken::<D>();
         acknowledgements_go_out::<D>();
+        events_keep_order::<D>();
+        losses_keep_order();
         let moment = self.moment.later(now);
+        is_early(moment);
         let envelope = match self.seal.unseal(alloc, moment, Dir::Up, packet) {
             Opened::Envelope(envelope) => envelope,
             Opened::Refused(refusal) => return self.refuses(alloc, moment, refusal),

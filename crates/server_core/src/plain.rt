@@ -1,22 +1,18 @@
 //! A desk that keeps nothing beside its server.
 
-ghost use Rattle.std.specs.Prelude.{◌≡◌, ◌≤◌, ⊤};
-ghost use Rattle.msg_ids.specs.Moments.{latest_moment};
+ghost use Rattle.std.specs.Prelude.{◌≡◌, ⊤};
 ghost use Rattle.waits.specs.Jobs.{ready_count};
 ghost use Rattle.server_core.specs.declared.desk.DeskFault.TheVariants as faults;
-ghost use Rattle.server_core.specs.Desks.{IsBetweenEvents};
-ghost use Rattle.server_core.specs.Server.{Stands};
+ghost use Rattle.server_core.specs.Server.{StandsFor as IsServer};
 
 use crate::desk::{DeskFault, Reply};
 use crate::desks::Desk;
 use crate::effects::Effects;
-use crate::order_laws::{events_keep_order, runs_keep_order};
 use crate::server::Server;
 use draws::Draw;
 use envelope::Seal;
 use msg_ids::Moment;
 use regs_service::Service;
-use server_session::laws::sessions_stand_later;
 use std::alloc::Global;
 
 /// A server that keeps nothing beside itself, with what it draws from. Its only fault is `Memory`.
@@ -35,7 +31,7 @@ impl<'a, S: Seal, D: Draw> Desk for Plain<'a, S, D> {
 
     ghost keys = { λ desk. S.keys desk.server.now.seal };
 
-    ghost StandsFor = { λ desk server. Stands desk.server.now server × IsBetweenEvents server };
+    ghost StandsFor = { λ desk server. IsServer desk.server.now server };
 
     ghost drawn = { λ desk. desk.draw.now };
 
@@ -51,9 +47,6 @@ impl<'a, S: Seal, D: Draw> Desk for Plain<'a, S, D> {
     ghost Behind = { λ desk fault server. ⊤ };
 
     fn on_packet(&mut self, alloc: Global, now: Moment, packet: &[u8]) -> Result<Reply, DeskFault> {
-        events_keep_order::<D>();
-        sessions_stand_later();
-        is_early(now);
         Ok(self.server.on_packet(alloc, now, packet, self.draw)?)
     }
 
@@ -72,14 +65,10 @@ impl<'a, S: Seal, D: Draw> Desk for Plain<'a, S, D> {
         service: &mut V,
         now: Moment,
     ) -> Result<Effects, DeskFault> {
-        runs_keep_order::<D, V>();
-        is_early(now);
         Ok(self.server.work(alloc, k, service, now, self.draw)?)
     }
 
     fn tick(&mut self, alloc: Global, now: Moment) -> Result<Effects, DeskFault> {
-        events_keep_order::<D>();
-        is_early(now);
         Ok(self.server.tick(alloc, now, self.draw)?)
     }
 
@@ -90,17 +79,8 @@ impl<'a, S: Seal, D: Draw> Desk for Plain<'a, S, D> {
         session: u64,
         now: Moment,
     ) -> Result<Effects, DeskFault> {
-        events_keep_order::<D>();
-        is_early(now);
         Ok(self.server.attach(alloc, key, session, now, self.draw)?)
     }
 
     fn is_in_order() {}
-}
-
-// A moment is at most the latest one.
-fn is_early(now: Moment)
-    ensures { now ≤ latest_moment }
-{
-    let _ = now.seconds();
 }

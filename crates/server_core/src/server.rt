@@ -2,20 +2,22 @@
 
 ghost use Rattle.std.specs.Prelude.{◌≡◌, ◌<◌, ◌≤◌, ℕ, [], Some, is_some, length, max, nat_lt, option_copied, slice_index_or, IfNone, IfOk, IfSome, OnErr, OnOk};
 ghost use Rattle.std.specs.List.{position};
+ghost use Rattle.msg_ids.specs.Moments.{latest_moment};
 ghost use Rattle.server_session.specs.declared.session.SessionState.{SessionState};
 ghost use Rattle.server_session.specs.SessionState.{numbers_left};
 ghost use Rattle.server_session.specs.Says.{Keys, setting_of};
 ghost use Rattle.waits.specs.Jobs.{ready_count};
 ghost use Rattle.server_rules.specs.Server.{Server as Rules, fresh_server, session_named};
 ghost use Rattle.server_rules.specs.Answer.{after_attach, after_loss, after_restart, room_min};
-ghost use Rattle.server_core.specs.Desks.{request_at};
+ghost use Rattle.server_core.specs.Desks.{Does, request_at};
 ghost use Rattle.server_core.specs.Sessions.{is_kept_as};
-ghost use Rattle.server_core.specs.Server.{Stands, without_jobs_where, without_kept_where};
+ghost use Rattle.server_core.specs.Server.{Stands, StandsFor, without_jobs_where, without_kept_where};
 ghost use Rattle.server_core.specs.Effects.{Gives};
 
 use crate::effects::Effects;
+use crate::order_laws::{events_keep_order, losses_keep_order};
 use crate::sessions::Sessions;
-use draws::Draw;
+use draws::{Draw, StepDraw};
 use envelope::Seal;
 use law_server::laws::sessions_speak_for_themselves;
 use msg_ids::Moment;
@@ -56,9 +58,10 @@ impl<S: Seal> Model for Server<S> {
 impl<S: Seal> Server<S> {
     /// A server without sessions, jobs and bindings, which was given no moment so far. Takes no memory.
     pub fn new(alloc: Global, seal: S) -> Server<S>
-        ensures stands { Stands result fresh_server }
+        ensures stands { StandsFor result fresh_server }
         ensures seal { result.seal ≡ seal }
     {
+        events_keep_order::<StepDraw>();
         Server {
             seal,
             moment: Moment::new(0),
@@ -78,7 +81,7 @@ impl<S: Seal> Server<S> {
     /// How many jobs are ready.
     pub fn ready(&self) -> usize
         ensures count { result ≡ ready_count self.now.jobs }
-        ensures stands { (server : Rules) → Stands self.now server → result ≡ ready_count server.jobs }
+        ensures stands { (server : Rules) → StandsFor self.now server → result ≡ ready_count server.jobs }
     {
         self.jobs.ready()
     }
@@ -87,7 +90,7 @@ impl<S: Seal> Server<S> {
     /// there is no such job. Takes no memory.
     pub fn ready_request(&self, k: usize) -> Option<&[u8]>
         ensures request { option_copied result ≡ request_at k self.now.jobs }
-        ensures stands { (server : Rules) → Stands self.now server → option_copied result ≡ request_at k server.jobs }
+        ensures stands { (server : Rules) → StandsFor self.now server → option_copied result ≡ request_at k server.jobs }
         ensures there { IfSome result (λ _. k < ready_count self.now.jobs) }
         ensures none { IfNone result (ready_count self.now.jobs ≤ k) }
     {
@@ -100,27 +103,29 @@ impl<S: Seal> Server<S> {
     /// How many jobs are unfinished, ready or not.
     pub fn unfinished(&self) -> usize
         ensures count { result ≡ length self.now.jobs }
-        ensures stands { (server : Rules) → Stands self.now server → result ≡ length server.jobs }
+        ensures stands { (server : Rules) → StandsFor self.now server → result ≡ length server.jobs }
     {
         self.jobs.len()
     }
 
     /// Loses the session of this name with its jobs; whether there was one. Takes no memory.
     pub fn lose(&mut self, key: u64, session: u64) -> bool
-        ensures found { (server : Rules) → Stands self.old server → result ≡ is_some (session_named (record { key = key; session = session }) server.sessions) }
-        ensures stands { (server : Rules) → Stands self.old server → Stands self.new (after_loss (record { key = key; session = session }) server) }
+        ensures found { (server : Rules) → StandsFor self.old server → result ≡ is_some (session_named (record { key = key; session = session }) server.sessions) }
+        ensures stands { (server : Rules) → StandsFor self.old server → StandsFor self.new (after_loss (record { key = key; session = session }) server) }
         ensures same_seal { self.new.seal ≡ self.old.seal }
     {
         sessions_stand_later();
+        losses_keep_order();
         self.jobs.forget(key, session);
         self.sessions.take_out(key, session).is_some()
     }
 
     /// Starts again, at the same moment: no session, no job and no binding is left. Takes no memory.
     pub fn restart(&mut self, alloc: Global)
-        ensures stands { (server : Rules) → Stands self.old server → Stands self.new (after_restart server) }
+        ensures stands { (server : Rules) → StandsFor self.old server → StandsFor self.new (after_restart server) }
         ensures same_seal { self.new.seal ≡ self.old.seal }
     {
+        losses_keep_order();
         self.sessions = Sessions::new(alloc);
         self.jobs = Jobs::new(alloc);
         self.bindings = Bindings::new(alloc);
@@ -140,14 +145,16 @@ impl<S: Seal> Server<S> {
         now: Moment,
         draw: &mut D,
     ) -> Result<Effects, Memory>
-        ensures given { (keys : Keys) (server : Rules) → Stands self.old server
-            → IfOk result (λ effects. Gives S.lock (S.keys self.old.seal) self.new draw.new effects
+        ensures given { (keys : Keys) (server : Rules) → StandsFor self.old server
+            → IfOk result (λ effects. Does (StandsFor self.new) S.lock (S.keys self.old.seal) draw.new effects
             (after_attach (setting_of (max self.old.moment now) D.step keys) (record { key = key; session = session }) server draw.old)) }
         ensures unchanged_on_memory { OnErr result (self.new ≡ self.old) }
         ensures same_seal { self.new.seal ≡ self.old.seal }
     {
         sessions_stand_later();
+        events_keep_order::<D>();
         let moment = self.moment.later(now);
+        is_early(moment);
         match self.sessions.place(key, session) {
             None => self.passes(alloc, moment),
             Some(place) => self.attach_at(alloc, key, session, place, moment, draw),
@@ -202,6 +209,13 @@ impl<S: Seal> Server<S> {
         lose_spent(&mut self.sessions, &mut self.jobs, key, session, place);
         Ok(Effects { out, entries })
     }
+}
+
+/// A moment is at most the latest one.
+pub(crate) fn is_early(moment: Moment)
+    ensures { moment ≤ latest_moment }
+{
+    let _ = moment.seconds();
 }
 
 /// The session of this name, which is at this place, is lost with its jobs where it has no room for a further event.

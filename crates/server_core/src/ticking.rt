@@ -5,13 +5,15 @@ ghost use Rattle.server_rules.specs.Server.{Server as Rules};
 ghost use Rattle.server_rules.specs.Answer.{after_tick};
 ghost use Rattle.law_server.specs.Order.{AreOrdered};
 ghost use Rattle.server_session.specs.Says.{Keys, setting_of};
-ghost use Rattle.server_core.specs.Server.{Stands};
+ghost use Rattle.server_core.specs.Desks.{Does};
+ghost use Rattle.server_core.specs.Server.{Stands, StandsFor};
 ghost use Rattle.server_core.specs.Effects.{Gives};
 
 use crate::effects::Effects;
 use crate::losing::lose_all_spent;
+use crate::order_laws::events_keep_order;
 use crate::reserving::{fresh_voices, reserves};
-use crate::server::Server;
+use crate::server::{Server, is_early};
 use crate::tick_laws::quiet_ticks_say_nothing;
 use draws::Draw;
 use envelope::Seal;
@@ -64,15 +66,17 @@ impl<S: Seal> Server<S> {
         now: Moment,
         draw: &mut D,
     ) -> Result<Effects, Memory>
-        ensures given { (keys : Keys) (server : Rules) → Stands self.old server → AreOrdered server.sessions server.jobs
-            → IfOk result (λ effects. Gives S.lock (S.keys self.old.seal) self.new draw.new effects
+        ensures given { (keys : Keys) (server : Rules) → StandsFor self.old server
+            → IfOk result (λ effects. Does (StandsFor self.new) S.lock (S.keys self.old.seal) draw.new effects
             (after_tick (setting_of (max self.old.moment now) D.step keys) server draw.old)) }
         ensures unchanged_on_memory { OnErr result (self.new ≡ self.old) }
         ensures same_seal { self.new.seal ≡ self.old.seal }
     {
         sessions_stand_later();
         quiet_ticks_say_nothing::<D>();
+        events_keep_order::<D>();
         let moment = self.moment.later(now);
+        is_early(moment);
         if self.jobs.overdue(moment) == 0 {
             self.passes(alloc, moment)
         } else {

@@ -17,14 +17,15 @@ ghost use Rattle.server_session.specs.Says.{Keys, setting_of};
 ghost use Rattle.server_session.specs.Rooms.{with_replies_left};
 ghost use Rattle.server_session.specs.SessionState.{IsAt, replies_left};
 ghost use Rattle.server_core.specs.Sessions.{AreApart, is_kept_as};
-ghost use Rattle.server_core.specs.Server.{CanSpeak, Stands};
-ghost use Rattle.server_core.specs.Desks.{IsShortRunAt};
+ghost use Rattle.server_core.specs.Server.{CanSpeak, Stands, StandsFor};
+ghost use Rattle.server_core.specs.Desks.{Does, IsShortRunAt};
 ghost use Rattle.server_core.specs.Effects.{Gives};
 ghost use Rattle.server_core.specs.Speech.{Begins};
 ghost use Rattle.server_core.specs.Working.{CanWork, Ends, IsRunning, worked};
 
 use crate::effects::Effects;
-use crate::server::{Server, lose_spent};
+use crate::order_laws::runs_keep_order;
+use crate::server::{Server, is_early, lose_spent};
 use crate::sessions::Sessions;
 use crate::working::{self, Work, ready_at};
 use draws::Draw;
@@ -114,8 +115,8 @@ impl Sessions {
 impl<S: Seal> Server<S> {
     /// Runs the ready job of this place among the ready ones, from 0 in order of acceptance: the service runs its request, the
     /// session that asked keeps and sends the reply, and each job that fails by that is answered. The place has to be less
-    /// than `ready()`. In a server that is in order the first entry is the run (`laws::runs_come_first`), and the session of
-    /// each job is there.
+    /// than `ready()`. In each server that it stands for the session of that job is there, and the first entry is the run
+    /// (`laws::runs_come_first`).
     ///
     /// # Errors
     ///
@@ -129,19 +130,21 @@ impl<S: Seal> Server<S> {
         draw: &mut D,
     ) -> Result<Effects, Memory>
         requires ready { k < ready_count self.old.jobs }
-        ensures given { (keys : Keys) (server : Rules) → Stands self.old server → AreOrdered server.sessions server.jobs
-            → IfOk result (λ effects. Gives S.lock (S.keys self.old.seal) self.new draw.new effects
+        ensures given { (keys : Keys) (server : Rules) → StandsFor self.old server
+            → IfOk result (λ effects. Does (StandsFor self.new) S.lock (S.keys self.old.seal) draw.new effects
             (after_work (setting_of (max self.old.moment now) D.step keys) k V.step service.old server draw.old).0) }
-        ensures served { (keys : Keys) (server : Rules) → Stands self.old server → AreOrdered server.sessions server.jobs
+        ensures served { (keys : Keys) (server : Rules) → StandsFor self.old server
             → OnOk result (service.new ≡ (after_work (setting_of (max self.old.moment now) D.step keys) k V.step service.old server draw.old).1) }
-        ensures short { (server : Rules) → Stands self.old server → AreOrdered server.sessions server.jobs
+        ensures short { (server : Rules) → StandsFor self.old server
             → OnOk result (IsShortRunAt k V.step service.old server) }
         ensures unchanged_on_memory { OnErr result (self.new ≡ self.old) }
         ensures same_service_on_memory { OnErr result (service.new ≡ service.old) }
         ensures same_seal { self.new.seal ≡ self.old.seal }
     {
         sessions_stand_later();
+        runs_keep_order::<D, V>();
         let moment = self.moment.later(now);
+        is_early(moment);
         let job = ready_at(&self.jobs, k);
         let job = ReadyJob {
             k,

@@ -19,12 +19,11 @@ use Rattle.sess_records.specs.Standing.{Holds, LeavesOneOf, Settled, SpellsOneOf
 use Rattle.server_core.specs.declared.desk.DeskFault.{DeskFault}
 use Rattle.server_core.specs.declared.desk.DeskFault.TheVariants as faults
 use Rattle.server_core.specs.declared.effects.Effects.{Effects}
-use Rattle.server_core.specs.Desks.{Does, IsBetweenEvents}
-use Rattle.server_core.specs.Effects.{Gives}
+use Rattle.server_core.specs.Desks.{Does}
 use Rattle.server_output.specs.declared.outs.Out.{Out}
 use Rattle.server_output.specs.Outs.{AreSent}
 use Rattle.server_core.specs.Packets.{brought_in}
-use Rattle.server_core.specs.Server.{Kept, Stands}
+use Rattle.server_core.specs.Server.{Kept, StandsFor as IsServer}
 use Rattle.server_rules.specs.Answer.{Answer, after_attach, after_packet, after_tick, after_work, is_spent}
 use Rattle.server_rules.specs.Event.{Envelope, Sent, Setting}
 use Rattle.server_rules.specs.Server.{Name, Server}
@@ -130,16 +129,15 @@ module _ {K S D : Type 0} (bases : Bases S D) (told : K → Option DiskTold) whe
   pub keeps_more : (seal : S) (entries : List Record) (file added : File K) (reached after : Reached) (desk : Seen K S D) (entry : Record) (server : Server)
       → Holds told entries file → Replays (bases seal file.seed) entries at_first reached
       → desk.server.seal ≡ seal → desk.book.journal ≡ Some added → Added told file entry added → Plays (bases seal file.seed) entry reached after
-      → Stands desk.server server → IsBetweenEvents server → server ≡ record after.server { now = server.now } → after.server.now ≤ server.now
+      → IsServer desk.server server → server ≡ record after.server { now = server.now } → after.server.now ≤ server.now
       → desk.latest ≡ server.now → after.place < 2 ^ 64 → desk.draw ≡ (bases seal file.seed).at after.place
       → KeepsFor bases told (entries ++ entry ∷ []) desk server
-  keeps_more seal entries file added reached after desk entry server holds replays same_seal opened adds plays stands between same later latest place drawn =
+  keeps_more seal entries file added reached after desk entry server holds replays same_seal opened adds plays stands same later latest place drawn =
       let basis : Basis D = bases seal file.seed in
       let same_basis : bases desk.server.seal added.seed ≡ basis =
       ap (λ (s : S). bases s added.seed) same_seal ∙ ap (λ (s : List ℕ). bases seal s) adds.seed in
       record {
         stands = stands;
-        between = between;
         recorded = record {
           file = added;
           opened = opened;
@@ -214,7 +212,7 @@ module _ {K S D : Type 0} {bases : Bases S D} {told : K → Option DiskTold} {en
 
   pub time_early : time ≤ latest_moment
   time_early =
-      let at : server.now ≤ latest_moment = stage.keeps.between.at in
+      let at : server.now ≤ latest_moment = stage.keeps.stands.between.at in
       let early : moment ≤ latest_moment = stage.early in omega (arith, at, early)
 
   pub time_is : max old.latest moment ≡ time
@@ -261,13 +259,12 @@ module _ {K S D : Type 0} {bases : Bases S D} {told : K → Option DiskTold} {en
       ∙ ap (λ (n : ℕ). F n its.reached.server (basis.at (basis.place_of old.draw))) (sym is)
 
   -- nothing changes but the moment
-  pub keeps_quiet : (new : Seen K S D) → new.server.seal ≡ old.server.seal → Stands new.server (record server { now = time })
-      → IsBetweenEvents (record server { now = time }) → new.latest ≡ max old.latest moment → new.draw ≡ old.draw → new.book ≡ old.book
+  pub keeps_quiet : (new : Seen K S D) → new.server.seal ≡ old.server.seal → IsServer new.server (record server { now = time })
+      → new.latest ≡ max old.latest moment → new.draw ≡ old.draw → new.book ≡ old.book
       → KeepsFor bases told entries new (record server { now = time })
-  keeps_quiet new seal stands between latest draw book =
+  keeps_quiet new seal stands latest draw book =
       record {
         stands = stands;
-        between = between;
         recorded = record {
           file = its.file;
           opened = ap (λ (b : Book K). b.journal) book ∙ its.opened;
@@ -348,7 +345,6 @@ pub record Occurs {K S D : Type 0} {bases : Bases S D} {told : K → Option Disk
     (event : Event (List ℕ)) (answer : Answer D) : Type 0 where
   pub leads : LeadsTo (basis stage) (max old.latest moment) ((basis stage).place_of old.draw) event (its stage).reached (reached_by (basis stage) answer)
   pub draws : (words : ℕ) × (answer.draw ≡ draw_after (basis stage).step words old.draw)
-  pub between : IsBetweenEvents answer.server
   pub at : answer.server.now ≡ max server.now moment
 
 module _ {K S D : Type 0} {bases : Bases S D} {told : K → Option DiskTold} {entries : List Record} {old : Seen K S D} {server : Server} {moment : ℕ} {stage : Stage bases told entries old server moment}
@@ -365,7 +361,7 @@ module _ {K S D : Type 0} {bases : Bases S D} {told : K → Option DiskTold} {en
 
 -- its record is added, and the desk stands for what it gives
 pub does_recorded : {K S D : Type 0} {bases : Bases S D} {told : K → Option DiskTold} {entries : List Record} {old : Seen K S D} {server : Server} {moment : ℕ} (stage : Stage bases told entries old server moment) (event : Event (List ℕ)) (answer : Answer D) → Occurs stage event answer
-    → (lock : Lock) (keys : List RingKey) (new : Seen K S D) (effects : Effects) (added : File K) → Gives lock keys new.server new.draw effects answer
+    → (lock : Lock) (keys : List RingKey) (new : Seen K S D) (effects : Effects) (added : File K) → Does (IsServer new.server) lock keys new.draw effects answer
     → new.server.seal ≡ old.server.seal → new.latest ≡ max old.latest moment → new.book.journal ≡ Some added → Added told (its stage).file (entry_at (basis stage).place_of old moment event) added
     → Does (KeepsFor bases told (entries ++ entry_at (basis stage).place_of old moment event ∷ []) new) lock keys new.draw effects answer
 does_recorded {K} {S} {D} {bases} {told} {entries} {old} {server} {moment} stage event answer occurs lock keys new effects added gives seal latest opened adds =
@@ -375,7 +371,7 @@ does_recorded {K} {S} {D} {bases} {told} {entries} {old} {server} {moment} stage
     record {
       stands =
           keeps_more bases told old.server.seal entries (its stage).file added (its stage).reached (reached_by (basis stage) answer) new (entry_at (basis stage).place_of old moment event) answer.server
-          (its stage).holds (its stage).replays seal opened adds (plays_at stage event (reached_by (basis stage) answer) occurs.leads) gives.stands occurs.between refl (omega arith)
+          (its stage).holds (its stage).replays seal opened adds (plays_at stage event (reached_by (basis stage) answer) occurs.leads) gives.stands refl (omega arith)
           (latest ∙ time_is stage ∙ sym occurs.at) seed.place (gives.drawn ∙ seed.drawn);
       drawn = gives.drawn;
       sent = gives.sent;
@@ -417,15 +413,15 @@ module _ {K S D : Type 0} {bases : Bases S D} {told : K → Option DiskTold} {en
   -- ---- a tick, an attach and a run, which ask nothing of the ring's keys
 
   -- an event that gives nothing to a server that has room for it changes nothing but the moment
-  pub does_quiet : (lock : Lock) (keys : List RingKey) (new : Seen K S D) (effects : Effects) (answer : Answer D) → Gives lock keys new.server new.draw effects answer
-      → answer ≡ quiet (max server.now moment) server old.draw → IsBetweenEvents answer.server → new.server.seal ≡ old.server.seal → new.latest ≡ max old.latest moment → new.book ≡ old.book
+  pub does_quiet : (lock : Lock) (keys : List RingKey) (new : Seen K S D) (effects : Effects) (answer : Answer D) → Does (IsServer new.server) lock keys new.draw effects answer
+      → answer ≡ quiet (max server.now moment) server old.draw → new.server.seal ≡ old.server.seal → new.latest ≡ max old.latest moment → new.book ≡ old.book
       → Does (KeepsFor bases told (entries ++ []) new) lock keys new.draw effects answer
-  does_quiet lock keys new effects answer given is_quiet between seal latest book =
+  does_quiet lock keys new effects answer given is_quiet seal latest book =
       let then : Server = record server { now = max server.now moment } in
       let server_is : answer.server ≡ then = ap (λ (a : Answer D). a.server) is_quiet in
       let draw_is : new.draw ≡ old.draw = given.drawn ∙ ap (λ (a : Answer D). a.draw) is_quiet in
       let stands : KeepsFor bases told entries new then =
-      keeps_quiet stage new seal (subst (λ (s : Server). Stands new.server s) server_is given.stands) (subst IsBetweenEvents server_is between) latest draw_is book in
+      keeps_quiet stage new seal (subst (λ (s : Server). IsServer new.server s) server_is given.stands) latest draw_is book in
       record {
         stands = subst (λ (l : List Record). KeepsFor bases told l new answer.server) (sym (append_none entries)) (subst (λ (s : Server). KeepsFor bases told entries new s) (sym server_is) stands);
         drawn = given.drawn;
@@ -434,10 +430,10 @@ module _ {K S D : Type 0} {bases : Bases S D} {told : K → Option DiskTold} {en
       }
 
   -- what it gives at the moment of the kept server is what it gives at its own
-  pub gives_now : (lock : Lock) (keys : List RingKey) (kept : Kept S) (draw : D) (effects : Effects) (F : ℕ → Answer D) → Gives lock keys kept draw effects (F (max old.server.moment moment))
-      → Gives lock keys kept draw effects (F (max server.now moment))
+  pub gives_now : (lock : Lock) (keys : List RingKey) (kept : Kept S) (draw : D) (effects : Effects) (F : ℕ → Answer D) → Does (IsServer kept) lock keys draw effects (F (max old.server.moment moment))
+      → Does (IsServer kept) lock keys draw effects (F (max server.now moment))
   gives_now lock keys kept draw effects F gives =
-      subst (λ (n : ℕ). Gives lock keys kept draw effects (F (max n moment))) stage.keeps.stands.moment gives
+      subst (λ (n : ℕ). Does (IsServer kept) lock keys draw effects (F (max n moment))) stage.keeps.stands.stands.moment gives
 
 -- what a tick and an attach come to, by the desk before
 abbrev pub MayJournals : {K S D : Type 0} → Bases S D → (K → Option DiskTold) → (D → ℕ) → Lock → (S → List RingKey) → (D → Keys → Answer D) → List Record → Server → ℕ → Event (List ℕ) → Seen K S D

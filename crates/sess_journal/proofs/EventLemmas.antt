@@ -1,16 +1,14 @@
 -- The events of a desk: what each gives, and that its record leads to that.
-use Rattle.std.proofs.Common.{◌≡◌, ◌≤◌, ℕ, Option, None, Some, List, max, sym, ap, subst, refl, ◌∙◌}
+use Rattle.std.proofs.Common.{◌≡◌, ℕ, Option, None, Some, List, max, sym, ap, subst, refl, ◌∙◌}
 use Rattle.disks.specs.Told.{DiskTold}
 use Rattle.draws.specs.Draws.{draw_after}
 use Rattle.envelope.specs.declared.parts.Dir.TheVariants.{Up}
 use Rattle.envelope.specs.declared.parts.Envelope.{Envelope as Sealed}
 use Rattle.envelope.specs.Opening.{Opens}
-use Rattle.msg_ids.specs.Moments.{latest_moment}
 use Rattle.regs_service.specs.Served.{Step}
 use Rattle.ring_rules.specs.Binding.{keys_of}
 use Rattle.sess_records.specs.declared.records.Event.TheVariants.{Attach, Packet, Ran, Tick}
 use Rattle.sess_records.specs.declared.records.Record.{Record}
-use Rattle.server_core.specs.Desks.{IsBetweenEvents, IsShortRunAt}
 use Rattle.server_core.specs.Packets.{brought_in}
 use Rattle.server_rules.specs.Answer.{Answer, after_attach, after_packet, after_run, after_tick, after_work}
 use Rattle.server_rules.specs.Event.{Envelope, Setting}
@@ -21,7 +19,7 @@ use Rattle.waits.specs.Jobs.{ready_job}
 use Rattle.sess_journal.specs.Keeping.{Seen, reply_at, reply_by}
 use Rattle.sess_journal.specs.Staging.{Stage}
 use Rattle.sess_journal.specs.Replay.{Bases, after_reply, always}
-use Rattle.sess_journal.proofs.DeskLemmas.{Occurs, basis, same_event, time_early, time_of}
+use Rattle.sess_journal.proofs.DeskLemmas.{Occurs, basis, same_event, time_of}
 use Rattle.sess_journal.proofs.PlayLemmas.{run_now}
 
 -- a run's answer is that of a service which gives its reply whatever it is asked
@@ -40,9 +38,8 @@ module _ {K S D : Type 0} {bases : Bases S D} {told : K → Option DiskTold} {en
   pub tick_occurs : (ring : Keys)
       → ((now : ℕ) (step : D → ℕ × D) (keys other : Keys) (server : Server) (draw : D) → after_tick (setting_of now step keys) server draw ≡ after_tick (setting_of now step other) server draw)
       → ((setting : Setting D) (server : Server) (draw : D) → (words : ℕ) × ((after_tick setting server draw).draw ≡ draw_after setting.step words draw))
-      → ((setting : Setting D) (server : Server) (draw : D) → setting.now ≤ latest_moment → IsBetweenEvents server → IsBetweenEvents (after_tick setting server draw).server)
       → Occurs stage Tick (after_tick (setting_of (max server.now moment) (basis stage).step ring) server old.draw)
-  tick_occurs ring asked drew keeps =
+  tick_occurs ring asked drew =
       let own : Keys = keys_of (basis stage).keys in
       let setting : Setting D = setting_of (max server.now moment) (basis stage).step ring in
       record {
@@ -53,7 +50,6 @@ module _ {K S D : Type 0} {bases : Bases S D} {told : K → Option DiskTold} {en
           refl,
         );
         draws = drew setting server old.draw;
-        between = keeps setting server old.draw (time_early stage) stage.keeps.between;
         at = refl;
       }
 
@@ -61,9 +57,8 @@ module _ {K S D : Type 0} {bases : Bases S D} {told : K → Option DiskTold} {en
       → ((now : ℕ) (step : D → ℕ × D) (keys other : Keys) (name : Name) (server : Server) (draw : D)
       → after_attach (setting_of now step keys) name server draw ≡ after_attach (setting_of now step other) name server draw)
       → ((setting : Setting D) (name : Name) (server : Server) (draw : D) → (words : ℕ) × ((after_attach setting name server draw).draw ≡ draw_after setting.step words draw))
-      → ((setting : Setting D) (name : Name) (server : Server) (draw : D) → setting.now ≤ latest_moment → IsBetweenEvents server → IsBetweenEvents (after_attach setting name server draw).server)
       → Occurs stage (Attach name.key name.session) (after_attach (setting_of (max server.now moment) (basis stage).step ring) name server old.draw)
-  attach_occurs name ring asked drew keeps =
+  attach_occurs name ring asked drew =
       let own : Keys = keys_of (basis stage).keys in
       let setting : Setting D = setting_of (max server.now moment) (basis stage).step ring in
       record {
@@ -74,15 +69,13 @@ module _ {K S D : Type 0} {bases : Bases S D} {told : K → Option DiskTold} {en
           refl,
         );
         draws = drew setting name server old.draw;
-        between = keeps setting name server old.draw (time_early stage) stage.keeps.between;
         at = refl;
       }
 
   pub packet_occurs : (packet : List ℕ) (ring : Keys) (envelope : Sealed) → ring ≡ keys_of (basis stage).keys → Opens (basis stage).lock (basis stage).keys (max server.now moment) Up packet envelope
       → ((setting : Setting D) (envelope : Envelope) (server : Server) (draw : D) → (words : ℕ) × ((after_packet setting envelope server draw).draw ≡ draw_after setting.step words draw))
-      → ((setting : Setting D) (envelope : Envelope) (server : Server) (draw : D) → setting.now ≤ latest_moment → IsBetweenEvents server → IsBetweenEvents (after_packet setting envelope server draw).server)
       → Occurs stage (Packet packet) (after_packet (setting_of (max server.now moment) (basis stage).step ring) (brought_in envelope) server old.draw)
-  packet_occurs packet ring envelope same opens drew keeps =
+  packet_occurs packet ring envelope same opens drew =
       let own : Keys = keys_of (basis stage).keys in
       let setting : Setting D = setting_of (max server.now moment) (basis stage).step ring in
       record {
@@ -97,7 +90,6 @@ module _ {K S D : Type 0} {bases : Bases S D} {told : K → Option DiskTold} {en
           refl,
         );
         draws = drew setting (brought_in envelope) server old.draw;
-        between = keeps setting (brought_in envelope) server old.draw (time_early stage) stage.keeps.between;
         at = refl;
       }
 
@@ -106,11 +98,8 @@ module _ {K S D : Type 0} {bases : Bases S D} {told : K → Option DiskTold} {en
       → after_work (setting_of now step keys) place serve service server draw ≡ after_work (setting_of now step other) place serve service server draw)
       → ((setting : Setting D) (place : ℕ) (serve : Step V) (service : V) (server : Server) (draw : D)
       → (words : ℕ) × ((after_work setting place serve service server draw).0.draw ≡ draw_after setting.step words draw))
-      → ((setting : Setting D) (place : ℕ) (serve : Step V) (service : V) (server : Server) (draw : D) → setting.now ≤ latest_moment → IsShortRunAt place serve service server
-      → IsBetweenEvents server → IsBetweenEvents (after_work setting place serve service server draw).0.server)
-      → IsShortRunAt job serve service server
       → Occurs stage (Ran (reply_at serve service job server.jobs)) (after_work (setting_of (max server.now moment) (basis stage).step ring) job serve service server old.draw).0
-  run_occurs {V} job serve service ring begun asked drew keeps short =
+  run_occurs {V} job serve service ring begun asked drew =
       let own : Keys = keys_of (basis stage).keys in
       let setting : Setting D = setting_of (max server.now moment) (basis stage).step ring in
       let found : Option Job = ready_job job server.jobs in
@@ -129,6 +118,5 @@ module _ {K S D : Type 0} {bases : Bases S D} {told : K → Option DiskTold} {en
           refl,
         );
         draws = drew setting job serve service server old.draw;
-        between = keeps setting job serve service server old.draw (time_early stage) short stage.keeps.between;
         at = run_now setting job found serve service server old.draw;
       }

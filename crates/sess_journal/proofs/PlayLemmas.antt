@@ -16,8 +16,8 @@ use Rattle.server_core.specs.declared.desk.Heard.{Heard}
 use Rattle.server_core.specs.declared.desk.Heard.TheVariants.{NotOpened}
 use Rattle.server_core.specs.Packets.{IsHeardOf}
 use Rattle.server_core.specs.declared.effects.Effects.{Effects}
-use Rattle.server_core.specs.Desks.{IsBetweenEvents}
-use Rattle.server_core.specs.Effects.{Gives}
+use Rattle.server_core.specs.Desks.{Does}
+use Rattle.server_core.specs.Server.{StandsFor}
 use Rattle.regs_service.specs.Served.{Step}
 use Rattle.server_rules.specs.Answer.{Answer, after_run}
 use Rattle.server_rules.specs.Event.{Setting}
@@ -44,9 +44,6 @@ seeded basis goes places place draw words below is =
 
 pub later_moment : (before now : ℕ) → before ≤ now → before ≤ latest_moment → max before (moment_of now) ≡ moment_of now
 later_moment before now le early = omega (arith, le, early)
-
-pub moment_early : (now : ℕ) → moment_of now ≤ latest_moment
-moment_early now = omega arith
 
 pub event_moment : (old reached now moment : ℕ) → old ≡ reached → reached ≤ now → reached ≤ latest_moment → moment ≡ moment_of now → max old moment ≡ moment_of now
 event_moment old reached now moment same le early is = ap (λ (n : ℕ). max n moment) same ∙ ap (max reached) is ∙ later_moment reached now le early
@@ -137,25 +134,23 @@ on_err (Err fault) f h = f fault h
 pub event_stands : {S D : Type 0} → (bases : Bases S D) (player : Player S D) (answer : ℕ → D → Answer D) (lock : Lock) (keys : List RingKey) (effects : Effects)
     (old reached now place moment : ℕ) (draw : D)
     → Goes (basis_for bases player) → Places (basis_for bases player) → place < 2 ^ 64 → old ≡ reached → reached ≤ now → reached ≤ latest_moment
-    → ((at : ℕ) → at ≤ latest_moment → IsBetweenEvents (answer at ((basis_for bases player).at place)).server)
     → ((at : ℕ) → (words : ℕ) × ((answer at ((basis_for bases player).at place)).draw ≡ draw_after (basis_for bases player).step words ((basis_for bases player).at place)))
     → ((at : ℕ) → (answer at ((basis_for bases player).at place)).server.now ≡ at)
     → moment ≡ moment_of now → draw ≡ (basis_for bases player).at place
-    → Gives lock keys player.server player.draw effects (answer (max old moment) draw)
+    → Does (StandsFor player.server) lock keys player.draw effects (answer (max old moment) draw)
     → player.latest ≡ moment → player.begun ≡ None
     → StandsAt bases (reached_by (basis_for bases player) (answer (moment_of now) ((basis_for bases player).at place))) player
-event_stands {S} {D} bases player answer lock keys effects old reached now place moment draw goes places below same le early between words its is_moment is_draw gives latest begun =
+event_stands {S} {D} bases player answer lock keys effects old reached now place moment draw goes places below same le early words its is_moment is_draw gives latest begun =
     let basis : Basis D = basis_for bases player in
     let at : max old moment ≡ moment_of now = ap (λ (n : ℕ). max n moment) same ∙ ap (max reached) is_moment ∙ later_moment reached now le early in
-    let timed : Gives lock keys player.server player.draw effects (answer (moment_of now) draw) =
-    subst (λ (n : ℕ). Gives lock keys player.server player.draw effects (answer n draw)) at gives in
-    let given : Gives lock keys player.server player.draw effects (answer (moment_of now) (basis.at place)) =
-    subst (λ (d : D). Gives lock keys player.server player.draw effects (answer (moment_of now) d)) is_draw timed in
+    let timed : Does (StandsFor player.server) lock keys player.draw effects (answer (moment_of now) draw) =
+    subst (λ (n : ℕ). Does (StandsFor player.server) lock keys player.draw effects (answer n draw)) at gives in
+    let given : Does (StandsFor player.server) lock keys player.draw effects (answer (moment_of now) (basis.at place)) =
+    subst (λ (d : D). Does (StandsFor player.server) lock keys player.draw effects (answer (moment_of now) d)) is_draw timed in
     let drew = words (moment_of now) in
     let seed : IsSeeded basis (answer (moment_of now) (basis.at place)).draw = seeded basis goes places place (answer (moment_of now) (basis.at place)).draw drew.0 below drew.1 in
     record {
       stands = given.stands;
-      between = between (moment_of now) (moment_early now);
       latest_is = latest ∙ is_moment ∙ sym (its (moment_of now));
       begun_is = begun;
       place = seed.place;

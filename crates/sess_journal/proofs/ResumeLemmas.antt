@@ -7,7 +7,7 @@ use Rattle.sess_records.specs.declared.records.Record.{Record}
 use Rattle.sess_records.specs.Seen.{File}
 use Rattle.sess_records.specs.Format.{Spells, open_gate}
 use Rattle.sess_records.specs.Standing.{Behind, Holds}
-use Rattle.server_core.specs.Server.{Kept, Stands}
+use Rattle.server_core.specs.Server.{Kept, StandsFor}
 use Rattle.sess_journal.specs.Keeping.{Book, KeepsFor, Resumed, Seen, disk_in, ending, ending_by}
 use Rattle.sess_journal.specs.Playing.{Leads, Player, StandsAt, basis_for}
 use Rattle.sess_journal.specs.Replay.{Bases, Reached, Replays, at_first}
@@ -45,8 +45,7 @@ module _ {K S D : Type 0} (bases : Bases S D) (told : K → Option DiskTold) whe
       let drawn : player.draw ≡ (bases player.server.seal file.seed).at reached.place =
       subst (λ (s : List ℕ). player.draw ≡ (bases player.server.seal s).at reached.place) seed stands.drawn in
       record {
-        stands = subst (λ (kept : Kept S). Stands kept reached.server) (sym server) stands.stands;
-        between = stands.between;
+        stands = subst (λ (kept : Kept S). StandsFor kept reached.server) (sym server) stands.stands;
         recorded = record {
           file = file;
           opened = ap (λ (b : Book K). b.journal) book;

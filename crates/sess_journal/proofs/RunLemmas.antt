@@ -63,7 +63,6 @@ module _ {K S D : Type 0} {bases : Bases S D} {told : K → Option DiskTold} {en
       record {
         keeps = record {
           stands = stage.keeps.stands;
-          between = stage.keeps.between;
           recorded = record {
             file = added;
             opened = opened;

@@ -14,8 +14,7 @@ use Rattle.server_core.specs.declared.desk.DeskFault.TheVariants as faults
 use Rattle.server_core.specs.declared.desk.Heard.{Heard}
 use Rattle.server_core.specs.declared.desk.Heard.TheVariants.{Judged, NotOpened}
 use Rattle.server_core.specs.declared.effects.Effects.{Effects}
-use Rattle.server_core.specs.Desks.{IsBetweenEvents}
-use Rattle.server_core.specs.Server.{Kept, Stands}
+use Rattle.server_core.specs.Server.{Kept, StandsFor as IsServer}
 use Rattle.server_rules.specs.Server.{Server}
 use Rattle.sess_journal.specs.Replay.{Bases, Reached, Replays, at_first}
 use Rattle.waits.specs.declared.job.Job.{Job}
@@ -73,8 +72,7 @@ pub record HasRecorded {K S D : Type 0} (bases : Bases S D) (told : K → Option
 
 -- With these records in its journal it stands for this server.
 pub record KeepsFor {K S D : Type 0} (bases : Bases S D) (told : K → Option DiskTold) (entries : List Record) (desk : Seen K S D) (server : Server) : Type 0 where
-  pub stands : Stands desk.server server
-  pub between : IsBetweenEvents server
+  pub stands : IsServer desk.server server
   pub recorded : HasRecorded bases told desk.server.seal entries desk.book desk.latest desk.draw server
 
 abbrev pub StandsFor : {K S D : Type 0} → Bases S D → (K → Option DiskTold) → Seen K S D → Server → Type 0

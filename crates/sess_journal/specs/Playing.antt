@@ -5,8 +5,7 @@ use Rattle.sess_records.specs.declared.records.Event.{Event}
 use Rattle.sess_records.specs.declared.records.Record.{Record}
 use Rattle.sess_records.specs.Seen.{Reading}
 use Rattle.sess_records.specs.Standing.{HasTaken}
-use Rattle.server_core.specs.Desks.{IsBetweenEvents}
-use Rattle.server_core.specs.Server.{Kept, Stands}
+use Rattle.server_core.specs.Server.{Kept, StandsFor}
 use Rattle.waits.specs.Jobs.{ready_count}
 use Rattle.sess_journal.specs.Replay.{Bases, Basis, LeadsTo, Reached, Replays, at_first}
 
@@ -27,8 +26,7 @@ basis_for bases player = bases player.server.seal player.seed
 
 -- that is what was reached
 pub record StandsAt {S D : Type 0} (bases : Bases S D) (reached : Reached) (player : Player S D) : Type 0 where
-  pub stands : Stands player.server reached.server
-  pub between : IsBetweenEvents reached.server
+  pub stands : StandsFor player.server reached.server
   pub latest_is : player.latest ≡ reached.server.now
   pub begun_is : player.begun ≡ reached.begun
   pub place : reached.place < 2 ^ 64

@@ -27,9 +27,7 @@ use law_server_replay::laws::{
 };
 use msg_ids::Moment;
 use ring_rules::laws::rings_have_keys;
-use server_core::order_laws::events_keep_order;
 use server_core::{DeskFault, Effects, Heard, Reply};
-use server_session::laws::sessions_stand_later;
 use sess_records::Event;
 use std::alloc::Global;
 
@@ -59,7 +57,6 @@ impl<K: Disk + Drop, S: Seal + Drop, D: Seeded + Drop> Kept<K, S, D> {
         ensures same_seal { self.new.server.seal ≡ self.old.server.seal }
     {
         events_begin::<K, S, D>();
-        events_keep_order::<D>();
         events_draw_words::<D, Recorded>();
         events_leave_room::<D, Recorded>();
         keys_are_asked_by_packets_alone::<D, Recorded>();
@@ -105,7 +102,6 @@ impl<K: Disk + Drop, S: Seal + Drop, D: Seeded + Drop> Kept<K, S, D> {
         ensures same_seal { self.new.server.seal ≡ self.old.server.seal }
     {
         events_begin::<K, S, D>();
-        events_keep_order::<D>();
         events_draw_words::<D, Recorded>();
         events_leave_room::<D, Recorded>();
         keys_are_asked_by_packets_alone::<D, Recorded>();
@@ -155,9 +151,7 @@ impl<K: Disk + Drop, S: Seal + Drop, D: Seeded + Drop> Kept<K, S, D> {
         ensures same_seal { self.new.server.seal ≡ self.old.server.seal }
     {
         events_begin::<K, S, D>();
-        events_keep_order::<D>();
         events_draw_words::<D, Recorded>();
-        sessions_stand_later();
         rings_have_keys();
         rings_say_one_thing();
         is_early(now);

@@ -16,7 +16,6 @@ use law_server_replay::laws::events_draw_words;
 use msg_ids::Moment;
 use octets::Memory;
 use ring_rules::laws::rings_have_keys;
-use server_core::order_laws::{events_keep_order, runs_keep_order};
 use server_core::{Heard, Server};
 use sess_records::{Event, Record};
 use std::alloc::Global;
@@ -76,7 +75,6 @@ impl<S: Seal + Drop, D: Seeded + Drop> Played<S, D> {
         ensures seed { result.seed ≡ seed }
         ensures seal { result.server.seal ≡ seal }
     {
-        events_keep_order::<D>();
         Played {
             server: Server::new(alloc, seal),
             latest: Moment::new(0),
@@ -136,7 +134,6 @@ impl<S: Seal + Drop, D: Seeded + Drop> Played<S, D> {
         S::opens_what_it_sealed();
         events_draw_words::<D, ()>();
         seeded_draws_go_on::<D>();
-        events_keep_order::<D>();
         rings_have_keys();
         let now = Moment::new(moment);
         self.draw = D::at(&self.seed, place);
@@ -165,7 +162,6 @@ impl<S: Seal + Drop, D: Seeded + Drop> Played<S, D> {
     {
         events_draw_words::<D, ()>();
         seeded_draws_go_on::<D>();
-        events_keep_order::<D>();
         let now = Moment::new(moment);
         self.draw = D::at(&self.seed, place);
         let _ = self.server.tick(alloc, now, &mut self.draw)?;
@@ -195,7 +191,6 @@ impl<S: Seal + Drop, D: Seeded + Drop> Played<S, D> {
     {
         events_draw_words::<D, ()>();
         seeded_draws_go_on::<D>();
-        events_keep_order::<D>();
         let now = Moment::new(moment);
         self.draw = D::at(&self.seed, place);
         let _ = self
@@ -292,7 +287,6 @@ impl<S: Seal + Drop, D: Seeded + Drop> Played<S, D> {
     {
         events_draw_words::<D, Recorded>();
         seeded_draws_go_on::<D>();
-        runs_keep_order::<D, Recorded>();
         let Some(job) = self.begun else {
             return Err(PlayFault::Unlawful);
         };

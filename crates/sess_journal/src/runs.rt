@@ -20,7 +20,6 @@ use envelope::Seal;
 use law_server_replay::laws::{events_draw_words, keys_are_asked_by_packets_alone};
 use msg_ids::Moment;
 use regs_service::Service;
-use server_core::order_laws::runs_keep_order;
 use server_core::{DeskFault, Effects};
 use sess_records::Event;
 use std::alloc::Global;
@@ -129,7 +128,6 @@ impl<K: Disk + Drop, S: Seal + Drop, D: Seeded + Drop> Kept<K, S, D> {
         ensures same_seal { self.new.server.seal ≡ self.old.server.seal }
     {
         events_begin::<K, S, D>();
-        runs_keep_order::<D, V>();
         events_draw_words::<D, V>();
         keys_are_asked_by_packets_alone::<D, V>();
         is_early(now);

@@ -1,5 +1,5 @@
 -- What bytes do that come to a server.
-use Rattle.std.proofs.Common.{◌≡◌, ◌∙◌, ℕ, ◌≤◌, max, true, false, List, [], ◌∷◌, Option, Some, None, ap, refl, sym, subst}
+use Rattle.std.proofs.Common.{◌≡◌, ◌∙◌, ℕ, max, true, false, List, [], Option, Some, None, ap, refl, sym, subst}
 use Rattle.envelope.specs.Lawful.{OpensWhatItSealed}
 use Rattle.std.specs.Prelude.{is_some, option_map}
 use Rattle.auth_keys.specs.declared.ring.RingKey.{RingKey}
@@ -10,58 +10,30 @@ use Rattle.envelope.specs.declared.parts.Envelope.{Envelope}
 use Rattle.envelope.specs.declared.refusal.Refusal.{Refusal}
 use Rattle.msg_ids.specs.Moments.{moment_of}
 use Rattle.server_output.specs.Outs.{AreSent}
-use Rattle.server_core.specs.Effects.{Gives}
+use Rattle.server_core.specs.Desks.{Does}
 use Rattle.server_core.specs.Packets.{IsHeardOf, NothingIsDone, brought_in, effects_in}
-use Rattle.server_core.specs.Server.{Kept, Stands as ServerStands}
-use Rattle.server_core.specs.Sessions.{AreKept}
+use Rattle.server_core.specs.Server.{Kept, StandsFor}
 use Rattle.server_core.specs.declared.desk.Heard.{Heard}
 use Rattle.server_core.specs.declared.desk.Heard.TheVariants.{Judged, NotOpened}
 use Rattle.server_core.specs.declared.desk.Reply.{Reply}
 use Rattle.server_rules.specs.Answer.{after_packet}
 use Rattle.server_rules.specs.Events.{Course, Packet as Comes, after_event}
-use Rattle.server_rules.specs.Server.{Server, Session}
+use Rattle.server_rules.specs.Server.{Server}
 use Rattle.server_session.specs.Says.{setting_of}
-use Rattle.server_session.specs.SessionState.{Stands as StandsOne}
-use Rattle.server_session.specs.declared.session.SessionState.{SessionState}
 use Rattle.world_rules.specs.Setting.{Setting, as_heard, at_server}
 use Rattle.sim_server.specs.Hosts.{Did}
 use Rattle.sim_server.specs.Settings.{IsOf, rings_of}
-
--- what is kept of a session stands for it later too
-abbrev pub StandsLater : Type 0
-StandsLater = (now later : ℕ) (standing : SessionState) (session : Session) → now ≤ later → StandsOne now standing session → StandsOne later standing session
-
-kept-later : StandsLater → (now later : ℕ) (standings : List SessionState) (sessions : List Session) → now ≤ later
-    → AreKept now standings sessions → AreKept later standings sessions
-kept-later stands now later [] [] le are = are
-kept-later stands now later (standing ∷ standings) (session ∷ sessions) le are =
-    (stands now later standing session le are.0, kept-later stands now later standings sessions le are.1)
-kept-later stands now later [] (session ∷ sessions) le are = absurd are
-kept-later stands now later (standing ∷ standings) [] le are = absurd are
 
 -- the course of a server with its service, before an event
 abbrev pub course_at : {D V : Type 0} → Server → V → D → Course D V
 course_at server service draw = record { server = server; service = service; draw = draw; packets = []; entries = [] }
 
--- a server at a later moment, and else as it was
-later-stands : {S : Type 0} → StandsLater → (before : Kept S) (rules : Server) (moment : ℕ) → before.moment ≤ moment → ServerStands before rules
-    → ServerStands (record before { moment = moment }) (record rules { now = moment })
-later-stands later before rules moment le stands =
-    record {
-      moment = refl;
-      sessions = kept-later later before.moment moment before.sessions rules.sessions le stands.sessions;
-      jobs = stands.jobs;
-      bindings = stands.bindings;
-    }
-
--- where it doesn't open, by what was heard
-not-opened : {S V D : Type 0} (lock : Lock) (ring : List RingKey) (setting : Setting D V) (before after : Kept S) (draw drawn : D) (reply : Reply) (heard : Heard)
-    (moment : ℕ) (bytes : List ℕ) → setting.opens moment Up bytes ≡ None → IsOf lock ring setting
-    → IsHeardOf lock ring moment bytes heard
-    → ((refusal : Refusal) → IsRefused lock ring moment Up bytes refusal → NothingIsDone moment before after draw drawn reply)
-    → NothingIsDone moment before after draw drawn reply
-not-opened lock ring setting before after draw drawn reply (NotOpened refusal) moment bytes none is heard refused = refused refusal heard
-not-opened lock ring setting before after draw drawn reply (Judged key session) moment bytes none is heard refused =
+-- where it doesn't open, what holds of each refusal holds, by what was heard
+not-opened : {D V : Type 0} (lock : Lock) (ring : List RingKey) (setting : Setting D V) (P : Type 0) (heard : Heard) (moment : ℕ) (bytes : List ℕ)
+    → setting.opens moment Up bytes ≡ None → IsOf lock ring setting → IsHeardOf lock ring moment bytes heard
+    → ((refusal : Refusal) → IsRefused lock ring moment Up bytes refusal → P) → P
+not-opened lock ring setting P (NotOpened refusal) moment bytes none is heard refused = refused refusal heard
+not-opened lock ring setting P (Judged key session) moment bytes none is heard refused =
     let envelope = heard.0 in
     let opens : setting.opens moment Up bytes ≡ Some envelope = (is.seal.opens moment Up bytes envelope).1 heard.1 in
     let no : None ≡ Some envelope = sym none ∙ opens in
@@ -70,30 +42,29 @@ not-opened lock ring setting before after draw drawn reply (Judged key session) 
 -- What was heard is what the bytes open to by the setting.
 pub heard-did : {S V D : Type 0} (lock : Lock) (ring : List RingKey) (setting : Setting D V) (before after : Kept S) (draw drawn : D) (reply : Reply) (rules : Server)
     (service : V) (clock moment : ℕ) (bytes : List ℕ) (opened : Option Envelope) → setting.opens moment Up bytes ≡ opened
-    → moment ≡ max rules.now (moment_of clock) → before.moment ≤ moment → StandsLater → IsOf lock ring setting → ServerStands before rules
+    → moment ≡ max rules.now (moment_of clock) → IsOf lock ring setting
     → IsHeardOf lock ring moment bytes reply.heard
-    → ((refusal : Refusal) → IsRefused lock ring moment Up bytes refusal → NothingIsDone moment before after draw drawn reply)
+    → ((refusal : Refusal) → IsRefused lock ring moment Up bytes refusal
+    → NothingIsDone moment before after draw drawn reply × StandsFor after (record rules { now = moment }))
     → ((envelope : Envelope) → Opens lock ring moment Up bytes envelope
-    → Gives lock ring after drawn (effects_in reply) (after_packet (setting_of moment setting.step (rings_of setting)) (brought_in envelope) rules draw))
+    → Does (StandsFor after) lock ring drawn (effects_in reply) (after_packet (setting_of moment setting.step (rings_of setting)) (brought_in envelope) rules draw))
     → Did lock ring after drawn (effects_in reply)
     (after_event (at_server setting) setting.serve setting.fresh (course_at rules service draw) (Comes clock (option_map as_heard opened)))
-heard-did lock ring setting before after draw drawn reply rules service clock moment bytes None opens at le later is stands heard refused given =
-    let nothing = not-opened lock ring setting before after draw drawn reply reply.heard moment bytes opens is heard refused in
-    let stood = later-stands later before rules moment le stands in
-    let at_its : ServerStands (record before { moment = moment }) (record rules { now = max rules.now (moment_of clock) }) =
-    subst (λ (m : ℕ). ServerStands (record before { moment = moment }) (record rules { now = m })) at stood in
+heard-did lock ring setting before after draw drawn reply rules service clock moment bytes None opens at is heard refused given =
+    let both = not-opened lock ring setting (NothingIsDone moment before after draw drawn reply × StandsFor after (record rules { now = moment }))
+    reply.heard moment bytes opens is heard refused in
     record {
-      stands = subst (λ kept. ServerStands kept (record rules { now = max rules.now (moment_of clock) })) (sym nothing.same) at_its;
-      drawn = nothing.drawn;
-      sent = subst (λ outs. AreSent lock ring [] outs) (sym nothing.sent) tt;
-      entered = nothing.entered;
+      stands = subst (λ (m : ℕ). StandsFor after (record rules { now = m })) at both.1;
+      drawn = both.0.drawn;
+      sent = subst (λ outs. AreSent lock ring [] outs) (sym both.0.sent) tt;
+      entered = both.0.entered;
     }
-heard-did lock ring setting before after draw drawn reply rules service clock moment bytes (Some envelope) opens at le later is stands heard refused given =
+heard-did lock ring setting before after draw drawn reply rules service clock moment bytes (Some envelope) opens at is heard refused given =
     let own = given envelope ((is.seal.opens moment Up bytes envelope).0 opens) in
-    let gives : Gives lock ring after drawn (effects_in reply)
+    let does : Does (StandsFor after) lock ring drawn (effects_in reply)
     (after_packet (setting_of (max rules.now (moment_of clock)) setting.step (rings_of setting)) (brought_in envelope) rules draw) =
-    subst (λ (m : ℕ). Gives lock ring after drawn (effects_in reply) (after_packet (setting_of m setting.step (rings_of setting)) (brought_in envelope) rules draw)) at own in
-    record { stands = gives.stands; drawn = gives.drawn; sent = gives.sent; entered = gives.entered }
+    subst (λ (m : ℕ). Does (StandsFor after) lock ring drawn (effects_in reply) (after_packet (setting_of m setting.step (rings_of setting)) (brought_in envelope) rules draw)) at own in
+    record { stands = does.stands; drawn = does.drawn; sent = does.sent; entered = does.entered }
 
 -- ---- whether bytes open
 

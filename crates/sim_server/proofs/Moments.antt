@@ -4,8 +4,8 @@ use Rattle.auth_keys.specs.declared.ring.RingKey.{RingKey}
 use Rattle.envelope.specs.Packet.{Lock}
 use Rattle.msg_ids.specs.Moments.{moment_of}
 use Rattle.regs_service.specs.Served.{Step}
-use Rattle.server_core.specs.Effects.{Gives}
-use Rattle.server_core.specs.Server.{Kept}
+use Rattle.server_core.specs.Desks.{Does}
+use Rattle.server_core.specs.Server.{Kept, StandsFor}
 use Rattle.server_core.specs.declared.effects.Effects.{Effects}
 use Rattle.server_rules.specs.Answer.{Answer, after_run}
 use Rattle.server_rules.specs.Event.{Envelope, Setting as ServerSetting}
@@ -22,11 +22,11 @@ use Rattle.sim_server.proofs.Serving.{at-clock, host_of}
 
 pub run-at : {S V D : Type 0} (lock : Lock) (ring : List RingKey) (kept : Kept S) (after drawn draw : D) (serviced service : V) (effects : Effects)
     (answer : ℕ → D → V → Answer D × V) (moment own now clock : ℕ) → moment ≡ own → now ≡ moment_of clock → draw ≡ drawn → service ≡ serviced
-    → Gives lock ring kept after effects (answer (max moment now) draw service).0
-    → Gives lock ring kept after effects (answer (max own (moment_of clock)) drawn serviced).0
+    → Does (StandsFor kept) lock ring after effects (answer (max moment now) draw service).0
+    → Does (StandsFor kept) lock ring after effects (answer (max own (moment_of clock)) drawn serviced).0
 run-at lock ring kept after drawn draw serviced service effects answer moment own now clock same at draws serves gives =
     let first = at-clock lock ring kept after drawn draw effects (λ m d. (answer m d service).0) moment own now clock same at draws gives in
-    subst (λ v. Gives lock ring kept after effects (answer (max own (moment_of clock)) drawn v).0) serves first
+    subst (λ v. Does (StandsFor kept) lock ring after effects (answer (max own (moment_of clock)) drawn v).0) serves first
 
 pub served-at : {V D : Type 0} (after serviced service : V) (drawn draw : D) (answer : ℕ → D → V → Answer D × V) (moment own now clock : ℕ)
     → moment ≡ own → now ≡ moment_of clock → draw ≡ drawn → service ≡ serviced → after ≡ (answer (max moment now) draw service).1
@@ -64,7 +64,6 @@ pub starts-again : {S V D : Type 0} (setting : Setting D V) (server : Kept S) (m
 starts-again setting server moment service clock past after draw world is stands =
     record {
       server = stands.server;
-      order = stands.order;
       moment = stands.moment;
       service = stands.service;
       clock = stands.clock;

@@ -7,13 +7,11 @@ use Rattle.envelope.specs.declared.parts.Dir.TheVariants.{Down}
 use Rattle.msg_ids.specs.Moments.{moment_of}
 use Rattle.server_output.specs.Outs.{AreSent}
 use Rattle.server_output.specs.declared.outs.Out.{Out}
-use Rattle.regs_service.specs.Served.{Step}
-use Rattle.server_core.specs.Effects.{Gives}
-use Rattle.server_core.specs.Server.{Kept}
+use Rattle.server_core.specs.Desks.{Does}
+use Rattle.server_core.specs.Server.{Kept, StandsFor}
 use Rattle.server_core.specs.declared.effects.Effects.{Effects}
-use Rattle.law_server.specs.Order.{AreOrdered}
 use Rattle.server_rules.specs.Answer.{Answer}
-use Rattle.server_rules.specs.Event.{Entry, Sent, Setting as ServerSetting}
+use Rattle.server_rules.specs.Event.{Entry, Sent}
 use Rattle.server_rules.specs.Events.{Course, Event, after_event, gone_on}
 use Rattle.world_rules.specs.Ends.{course_in, sent_down, serves}
 use Rattle.world_rules.specs.Premises.{IsSealed}
@@ -23,12 +21,6 @@ use Rattle.sim_server.specs.Hosts.{Did, Gave, Host, Stands, kept_of}
 use Rattle.sim_server.specs.Pasts.{Kept as Past}
 use Rattle.sim_server.specs.Made.{Made, GoesDown, made_of_out}
 use Rattle.sim_server.specs.Registers.{entered}
-
--- each event leaves a server in order
-abbrev pub KeepsOrder : Type 0 → Type 0 → Type 0
-KeepsOrder D V = (setting : ServerSetting D) (serve : Step V) (service : V) (course : Course D V) (event : Event)
-    → AreOrdered course.server.sessions course.server.jobs
-    → AreOrdered (after_event setting serve service course event).server.sessions (after_event setting serve service course event).server.jobs
 
 -- ---- what goes out
 
@@ -65,7 +57,7 @@ bag-after setting bag made world done before more =
 
 pub serves-stands : {S V D : Type 0} (lock : Lock) (ring : List RingKey) (setting : Setting D V) (host : Host S V) (old : D) (world : World D V) (event : Event)
     (kept : Kept S) (moment : ℕ) (service : V) (draw : D) (outs : List Out) (made : List Entry) (start : ℕ) (bag : List Made) (entries : List Entered) (room : ℕ)
-    → KeepsOrder D V → IsSealed lock ring setting → Stands setting host old world
+    → IsSealed lock ring setting → Stands setting host old world
     → Gave lock ring kept draw outs made (after_event (at_server setting) setting.serve setting.fresh (course_in world) event)
     → service ≡ (after_event (at_server setting) setting.serve setting.fresh (course_in world) event).service
     → moment ≡ (after_event (at_server setting) setting.serve setting.fresh (course_in world) event).server.now
@@ -74,11 +66,10 @@ pub serves-stands : {S V D : Type 0} (lock : Lock) (ring : List RingKey) (settin
     → Stands setting
     (record { server = kept; moment = moment; service = service; clock = host.clock; start = start; bag = bag; entries = entries; room = room })
     draw (serves setting event world)
-serves-stands lock ring setting host old world event kept moment service draw outs made start bag entries room keeps is stands did served moved same_start bag_is entries_are =
+serves-stands lock ring setting host old world event kept moment service draw outs made start bag entries room is stands did served moved same_start bag_is entries_are =
     let done = after_event (at_server setting) setting.serve setting.fresh (course_in world) event in
     record {
       server = did.stands;
-      order = keeps (at_server setting) setting.serve setting.fresh (course_in world) event stands.order;
       moment = moved;
       service = served;
       clock = stands.clock;
@@ -97,18 +88,18 @@ serves-stands lock ring setting host old world event kept moment service draw ou
 
 -- what an event gives at the moment of the world's clock
 pub at-clock : {S D : Type 0} (lock : Lock) (ring : List RingKey) (kept : Kept S) (after drawn draw : D) (effects : Effects) (answer : ℕ → D → Answer D)
-    (moment own now clock : ℕ) → moment ≡ own → now ≡ moment_of clock → draw ≡ drawn → Gives lock ring kept after effects (answer (max moment now) draw)
-    → Gives lock ring kept after effects (answer (max own (moment_of clock)) drawn)
+    (moment own now clock : ℕ) → moment ≡ own → now ≡ moment_of clock → draw ≡ drawn → Does (StandsFor kept) lock ring after effects (answer (max moment now) draw)
+    → Does (StandsFor kept) lock ring after effects (answer (max own (moment_of clock)) drawn)
 at-clock lock ring kept after drawn draw effects answer moment own now clock same at draws gives =
-    let first : Gives lock ring kept after effects (answer (max own now) draw) =
-    subst (λ (m : ℕ). Gives lock ring kept after effects (answer (max m now) draw)) same gives in
-    let second : Gives lock ring kept after effects (answer (max own (moment_of clock)) draw) =
-    subst (λ (n : ℕ). Gives lock ring kept after effects (answer (max own n) draw)) at first in
-    subst (λ d. Gives lock ring kept after effects (answer (max own (moment_of clock)) d)) draws second
+    let first : Does (StandsFor kept) lock ring after effects (answer (max own now) draw) =
+    subst (λ (m : ℕ). Does (StandsFor kept) lock ring after effects (answer (max m now) draw)) same gives in
+    let second : Does (StandsFor kept) lock ring after effects (answer (max own (moment_of clock)) draw) =
+    subst (λ (n : ℕ). Does (StandsFor kept) lock ring after effects (answer (max own n) draw)) at first in
+    subst (λ d. Does (StandsFor kept) lock ring after effects (answer (max own (moment_of clock)) d)) draws second
 
 -- what an event gives is what a course gave where it has the event's parts
 pub gave : {S V D : Type 0} (lock : Lock) (ring : List RingKey) (kept : Kept S) (draw : D) (effects : Effects) (answer : Answer D) (course : Course D V) (service : V)
-    → course.packets ≡ [] → course.entries ≡ [] → Gives lock ring kept draw effects answer
+    → course.packets ≡ [] → course.entries ≡ [] → Does (StandsFor kept) lock ring draw effects answer
     → Gave lock ring kept draw effects.out.outs effects.entries.entries (gone_on course service answer)
 gave lock ring kept draw effects answer course service no_packets no_entries gives =
     record {
@@ -136,16 +127,16 @@ host_of server moment service clock past =
 
 pub event-stands : {S V D : Type 0} (lock : Lock) (ring : List RingKey) (setting : Setting D V) (server : Kept S) (moment : ℕ) (service : V) (clock : ℕ) (past : Past)
     (old : D) (world : World D V) (event : Event) (kept : Kept S) (at : ℕ) (served : V) (draw : D) (effects : Effects) (taken after : Past)
-    → KeepsOrder D V → IsSealed lock ring setting → Stands setting (host_of server moment service clock past) old world
+    → IsSealed lock ring setting → Stands setting (host_of server moment service clock past) old world
     → Did lock ring kept draw effects (after_event (at_server setting) setting.serve setting.fresh (course_in world) event)
     → served ≡ (after_event (at_server setting) setting.serve setting.fresh (course_in world) event).service
     → at ≡ (after_event (at_server setting) setting.serve setting.fresh (course_in world) event).server.now
     → taken ≡ record past { room = taken.room } → after.bag ≡ taken.bag ++ map made_of_out effects.out.outs
     → after.entries ≡ taken.entries ++ map (entered taken.start) effects.entries.entries → after.start ≡ taken.start
     → Stands setting (host_of kept at served clock after) draw (serves setting event world)
-event-stands lock ring setting server moment service clock past old world event kept at served draw effects taken after keeps is stands did serves_so moved same bag entries start =
+event-stands lock ring setting server moment service clock past old world event kept at served draw effects taken after is stands did serves_so moved same bag entries start =
     serves-stands lock ring setting (host_of server moment service clock past) old world event kept at served draw effects.out.outs effects.entries.entries
-    after.start after.bag after.entries after.room keeps is stands did serves_so moved
+    after.start after.bag after.entries after.room is stands did serves_so moved
     (start ∙ ap (λ (p : Past). p.start) same)
     (bag ∙ ap (λ (p : Past). p.bag ++ map made_of_out effects.out.outs) same)
     (entries ∙ ap (λ (p : Past). p.entries ++ map (entered p.start) effects.entries.entries) same)
@@ -153,11 +144,11 @@ event-stands lock ring setting server moment service clock past old world event 
 -- an event that makes nothing and takes no memory
 pub quiet-stands : {S V D : Type 0} (lock : Lock) (ring : List RingKey) (setting : Setting D V) (server : Kept S) (moment : ℕ) (service : V) (clock : ℕ) (past : Past)
     (draw : D) (world : World D V) (event : Event) (kept : Kept S) (served : V)
-    → KeepsOrder D V → IsSealed lock ring setting → Stands setting (host_of server moment service clock past) draw world
+    → IsSealed lock ring setting → Stands setting (host_of server moment service clock past) draw world
     → Gave lock ring kept draw [] [] (after_event (at_server setting) setting.serve setting.fresh (course_in world) event)
     → served ≡ (after_event (at_server setting) setting.serve setting.fresh (course_in world) event).service
     → moment ≡ (after_event (at_server setting) setting.serve setting.fresh (course_in world) event).server.now
     → Stands setting (host_of kept moment served clock past) draw (serves setting event world)
-quiet-stands lock ring setting server moment service clock past draw world event kept served keeps is stands did serves_so moved =
+quiet-stands lock ring setting server moment service clock past draw world event kept served is stands did serves_so moved =
     serves-stands lock ring setting (host_of server moment service clock past) draw world event kept moment served draw [] []
-    past.start past.bag past.entries past.room keeps is stands did serves_so moved refl (sym (append-nil past.bag)) (sym (append-nil past.entries))
+    past.start past.bag past.entries past.room is stands did serves_so moved refl (sym (append-nil past.bag)) (sym (append-nil past.entries))

@@ -7,9 +7,8 @@ use Rattle.envelope.specs.declared.parts.Dir.TheVariants.{Up, Down}
 use Rattle.msg_ids.specs.Moments.{moment_of}
 use Rattle.server_output.specs.Outs.{AreSent}
 use Rattle.server_output.specs.declared.outs.Out.{Out}
-use Rattle.server_core.specs.Server.{Kept, Stands as ServerStands}
+use Rattle.server_core.specs.Server.{Kept, StandsFor}
 use Rattle.server_core.specs.declared.effects.Effects.{Effects}
-use Rattle.law_server.specs.Order.{AreOrdered}
 use Rattle.server_rules.specs.Event.{Entry}
 use Rattle.server_rules.specs.Events.{Course, Packet as Comes, after_event}
 use Rattle.server_rules.specs.Server.{Server}
@@ -40,9 +39,8 @@ kept_of setting packet = kept_in packet.dir packet.envelope.session (bytes_of se
 
 -- It stands, with what words are drawn from, for a world of the definitions, whatever clients that has.
 pub record Stands {S V D : Type 0} (setting : Setting D V) (host : Host S V) (draw : D) (world : World D V) : Type 0 where
-  -- the server is that of the present start, which is in order between events
-  pub server : ServerStands host.server world.server
-  pub order : AreOrdered world.server.sessions world.server.jobs
+  -- the server is that of the present start
+  pub server : StandsFor host.server world.server
   pub moment : host.moment ≡ world.server.now
   -- its service, its clock, the draw, and the number of the start
   pub service : host.service ≡ world.service
@@ -59,7 +57,7 @@ Stays before after = after ≡ record before { room = after.room }
 
 -- Scaffolding, and no promise: what is kept of a server after an event, the draw, and what the event gave, are those of a course.
 pub record Gave {S V D : Type 0} (lock : Lock) (ring : List RingKey) (kept : Kept S) (draw : D) (outs : List Out) (entries : List Entry) (done : Course D V) : Type 0 where
-  pub stands : ServerStands kept done.server
+  pub stands : StandsFor kept done.server
   pub drawn : draw ≡ done.draw
   pub sent : AreSent lock ring done.packets outs
   pub entered : entries ≡ done.entries

@@ -19,7 +19,6 @@ use crate::past::Past;
 use crate::register::Register;
 use draws::Draw;
 use envelope::{Dir, Opened, Seal};
-use law_server::laws::servers_stay_in_order;
 use msg_ids::Moment;
 use octets::{Memory, Octets};
 use regs_service::Service;
@@ -62,7 +61,6 @@ impl<S: Seal, V: Service> Host<S, V> {
             Stands setting result draw (begins setting draw) }
         ensures seal { result.server.seal ≡ seal }
     {
-        servers_stay_in_order::<D, V>();
         Host {
             server: Server::new(alloc, seal),
             moment: Moment::new(0),
@@ -132,7 +130,6 @@ impl<S: Seal, V: Service> Host<S, V> {
         ensures unchanged_on_memory { OnErr result (Stays self.old self.new) }
         ensures same_seal { self.new.server.seal ≡ self.old.server.seal }
     {
-        servers_stay_in_order::<D, V>();
         self.past.reserve(alloc)?;
         let now = Moment::new(self.clock);
         let Effects { out, entries } = self.server.tick(alloc, now, draw)?;
@@ -159,7 +156,6 @@ impl<S: Seal, V: Service> Host<S, V> {
         ensures unchanged_on_memory { OnErr result (Stays self.old self.new) }
         ensures same_seal { self.new.server.seal ≡ self.old.server.seal }
     {
-        servers_stay_in_order::<D, V>();
         self.past.reserve(alloc)?;
         let now = Moment::new(self.clock);
         let Effects { out, entries } = self
@@ -188,7 +184,6 @@ impl<S: Seal, V: Service> Host<S, V> {
         ensures unchanged_on_memory { OnErr result (Stays self.old self.new) }
         ensures same_seal { self.new.server.seal ≡ self.old.server.seal }
     {
-        servers_stay_in_order::<D, V>();
         self.past.reserve(alloc)?;
         let now = Moment::new(self.clock);
         let Effects { out, entries } = self.server.attach(alloc, key, session, now, draw)?;
@@ -204,7 +199,6 @@ impl<S: Seal, V: Service> Host<S, V> {
             → Stands setting self.new draw (serves setting (Loss (record { key = key; session = session })) world) }
         ensures same_seal { self.new.server.seal ≡ self.old.server.seal }
     {
-        servers_stay_in_order::<D, V>();
         self.server.lose(key, session);
     }
 
@@ -221,7 +215,6 @@ impl<S: Seal, V: Service> Host<S, V> {
         ensures unchanged_on_memory { OnErr result (self.new ≡ self.old) }
         ensures same_seal { self.new.server.seal ≡ self.old.server.seal }
     {
-        servers_stay_in_order::<D, V>();
         self.past.starts_again()?;
         self.server.restart(alloc);
         self.service = V::fresh(alloc);
@@ -264,7 +257,6 @@ impl<S: Seal, V: Service> Host<S, V> {
         ensures unchanged_on_memory { OnErr result (Stays self.old self.new) }
         ensures same_seal { self.new.server.seal ≡ self.old.server.seal }
     {
-        servers_stay_in_order::<D, V>();
         self.past.reserve(alloc)?;
         let now = Moment::new(self.clock);
         let Effects { out, entries } = hears::<S, V, D>(&mut self.server, alloc, now, bytes, draw)?;
@@ -292,7 +284,6 @@ impl<S: Seal, V: Service> Host<S, V> {
         ensures unchanged_on_memory { OnErr result (Stays self.old self.new) }
         ensures same_seal { self.new.server.seal ≡ self.old.server.seal }
     {
-        servers_stay_in_order::<D, V>();
         self.past.reserve(alloc)?;
         let now = Moment::new(self.clock);
         let Some(Packet::Up(bytes)) = self.past.bag().packet(number) else {

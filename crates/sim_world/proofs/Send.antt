@@ -48,7 +48,6 @@ bagged {S} {V} {D} setting host after old draw seats world answer made stands is
     let more : Host S V = record host { bag = host.bag ++ made; room = after.room } in
     let there : HostStands setting more draw next = record {
       server = stands.server;
-      order = stands.order;
       moment = stands.moment;
       service = stands.service;
       clock = stands.clock;

@@ -38,7 +38,6 @@ pub redrawn : {S V D : Type 0} (setting : Setting D V) (host : Host S V) (draw o
 redrawn setting host draw other world stands =
     record {
       server = stands.server;
-      order = stands.order;
       moment = stands.moment;
       service = stands.service;
       clock = stands.clock;
@@ -53,7 +52,6 @@ pub reseated : {S V D : Type 0} (setting : Setting D V) (host : Host S V) (draw 
 reseated setting host draw seats world stands =
     record {
       server = stands.server;
-      order = stands.order;
       moment = stands.moment;
       service = stands.service;
       clock = stands.clock;
@@ -68,7 +66,6 @@ with-room : {S V D : Type 0} (setting : Setting D V) (host : Host S V) (room : â
 with-room setting host room draw world stands =
     record {
       server = stands.server;
-      order = stands.order;
       moment = stands.moment;
       service = stands.service;
       clock = stands.clock;

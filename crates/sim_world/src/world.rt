@@ -1,7 +1,7 @@
 //! A world.
 
 ghost use Rattle.std.specs.Prelude.{◌≡◌, ◌<◌, ◌≤◌, ℕ, Some, length, option_map};
-ghost use Rattle.server_core.specs.Server.{Stands as ServerStands};
+ghost use Rattle.server_core.specs.Server.{StandsFor};
 ghost use Rattle.sim_clients.specs.Told.{IsClientOf};
 ghost use Rattle.world_rules.specs.Setting.{Setting};
 ghost use Rattle.world_rules.specs.World.{World as Rules, begins, counted};
@@ -77,7 +77,7 @@ impl<S: Seal, V: Service, D: Draw> World<S, V, D> {
     pub fn server(&self) -> &Server<S>
         ensures kept { result.now ≡ self.now.host.server }
         // It stands for that world's server: its sessions, with their histories, calls and jobs.
-        ensures stands { (setting : Setting D V) (world : Rules D V) → Stands setting self.now world → ServerStands result.now world.server }
+        ensures stands { (setting : Setting D V) (world : Rules D V) → Stands setting self.now world → StandsFor result.now world.server }
     {
         self.host.server()
     }

@@ -27,11 +27,11 @@ returns g c = record {
       (c.serve-ending.ensures.serves (outside_of c.args.ring)
       (first_of c.args.options.now (record { before = g.C.Clock.given c.args.clock.now; after = g.C.Clock.given c.serve-ending.new.clock }) c.args.draw.now)
       (subst (λ (ring : List RingKey). IsOutside mt_lock ring (outside_of c.args.ring)) (sym (c.new-server.ensures.seal ∙ c.new.ensures)) (c.rings_say_as_worked_out.ensures c.args.ring))
-      (record { server = (c.new-server.ensures.stands, c.events_keep_order.ensures.fresh); draw = refl; served = refl; gave = refl; count = refl }))
+      (record { server = c.new-server.ensures.stands; draw = refl; served = refl; gave = refl; count = refl }))
       (joined _ c.serve-ending.new.desk.draw.now _ (search rules) refl)
       (c.serve-ending.ensures.desk_counted (outside_of c.args.ring)
       (first_of c.args.options.now (record { before = g.C.Clock.given c.args.clock.now; after = g.C.Clock.given c.serve-ending.new.clock }) c.args.draw.now)
       (subst (λ (ring : List RingKey). IsOutside mt_lock ring (outside_of c.args.ring)) (sym (c.new-server.ensures.seal ∙ c.new.ensures)) (c.rings_say_as_worked_out.ensures c.args.ring))
-      (record { server = (c.new-server.ensures.stands, c.events_keep_order.ensures.fresh); draw = refl; served = refl; gave = refl; count = refl }))
+      (record { server = c.new-server.ensures.stands; draw = refl; served = refl; gave = refl; count = refl }))
       (λ full. never-full (c.serve-ending.ensures.full full)) c.requires.last c.last.ensures;
 }

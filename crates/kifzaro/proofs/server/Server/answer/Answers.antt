@@ -20,9 +20,8 @@ returns-clause-given c = λ keys server is.
     c.self.view_is
     (λ (own : Is inside server).
     subst (λ (one : List ℕ). Did inside after (after_reply (setting_of (max inside.server.moment c.args.now) drawing keys) one server inside.draw)) c.in_ok-given.ensures
-    (event_did inside after c.draw-draw.result c.work.new.draw effects (λ at draw. (after_work (setting_of at drawing keys) 0 giving given server draw).0)
-    c.args.now server own c.is_early.ensures
-    (λ at draw early. c.runs_keep_order.ensures (setting_of at drawing keys) 0 giving given server draw early (c.in_ok-effects.ensures.short server own.stands own.order.order) own.order)
-    (λ at draw. c.events_draw_words.ensures.work (setting_of at drawing keys) 0 giving given server draw)
-    c.draw-draw.ensures (c.in_ok-effects.ensures.given keys server own.stands own.order.order) c.reach.ensures more refl))
+    (event_did inside after c.draw-draw.result c.work.new.draw effects
+    (λ draw. (after_work (setting_of (max inside.server.moment c.args.now) drawing keys) 0 giving given server draw).0)
+    (λ draw. c.events_draw_words.ensures.work (setting_of (max inside.server.moment c.args.now) drawing keys) 0 giving given server draw)
+    c.draw-draw.ensures (c.in_ok-effects.ensures.given keys server own) c.reach.ensures more refl))
     is

@@ -18,9 +18,8 @@ returns-in-Ok-clause-given c = λ keys server is.
     let waits : after.waiting ≡ inside.waiting ++ c.in-Ok.effects.out.outs =
     c.put.ensures.put ∙ ap (λ (outs : List Out). outs ++ c.in-Ok.effects.out.outs) c.make_room.ensures.same in
     subst (λ (old : Kept). Is old server → Did old after (after_attach (setting_of (max old.server.moment c.args.now) drawing keys) name server old.draw)) c.self.view_is
-    (λ (own : Is inside server). event_did inside after c.draw-draw.result c.attach.new.draw c.in-Ok.effects (λ at draw. after_attach (setting_of at drawing keys) name server draw)
-    c.args.now server own c.is_early.ensures
-    (λ at draw early. c.events_keep_order.ensures.attach (setting_of at drawing keys) name server draw early own.order)
-    (λ at draw. c.events_draw_words.ensures.attach (setting_of at drawing keys) name server draw)
-    c.draw-draw.ensures (c.in-Ok.ensures.given keys server own.stands) c.reach.ensures waits none)
+    (λ (own : Is inside server). event_did inside after c.draw-draw.result c.attach.new.draw c.in-Ok.effects
+    (λ draw. after_attach (setting_of (max inside.server.moment c.args.now) drawing keys) name server draw)
+    (λ draw. c.events_draw_words.ensures.attach (setting_of (max inside.server.moment c.args.now) drawing keys) name server draw)
+    c.draw-draw.ensures (c.in-Ok.ensures.given keys server own) c.reach.ensures waits none)
     is

@@ -16,9 +16,8 @@ returns-in-Ok-clause-given c = λ keys server is.
     let waits : after.waiting ≡ inside.waiting ++ c.in-Ok.effects.out.outs =
     c.put.ensures.put ∙ ap (λ (outs : List Out). outs ++ c.in-Ok.effects.out.outs) c.make_room.ensures.same in
     subst (λ (old : Kept). Is old server → Did old after (after_tick (setting_of (max old.server.moment c.args.now) drawing keys) server old.draw)) c.self.view_is
-    (λ (own : Is inside server). event_did inside after c.draw-draw.result c.tick.new.draw c.in-Ok.effects (λ at draw. after_tick (setting_of at drawing keys) server draw)
-    c.args.now server own c.is_early.ensures
-    (λ at draw early. c.events_keep_order.ensures.tick (setting_of at drawing keys) server draw early own.order)
-    (λ at draw. c.events_draw_words.ensures.tick (setting_of at drawing keys) server draw)
-    c.draw-draw.ensures (c.in-Ok.ensures.given keys server own.stands own.order.order) c.reach.ensures waits none)
+    (λ (own : Is inside server). event_did inside after c.draw-draw.result c.tick.new.draw c.in-Ok.effects
+    (λ draw. after_tick (setting_of (max inside.server.moment c.args.now) drawing keys) server draw)
+    (λ draw. c.events_draw_words.ensures.tick (setting_of (max inside.server.moment c.args.now) drawing keys) server draw)
+    c.draw-draw.ensures (c.in-Ok.ensures.given keys server own) c.reach.ensures waits none)
     is

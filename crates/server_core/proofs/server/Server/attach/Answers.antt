@@ -1,5 +1,6 @@
-use Rattle.std.proofs.Common.{◌≡◌, ◌∙◌, ℕ, Result, Ok, Err, [], max, ap, sym, subst, refl}
+use Rattle.std.proofs.Common.{◌≡◌, ◌∙◌, ◌≤◌, ℕ, Result, Ok, Err, [], max, ap, sym, subst, refl}
 use Rattle.std.specs.Prelude.{IfOk, OnOk}
+use Rattle.msg_ids.specs.Moments.{latest_moment}
 use Rattle.server_rules.specs.Server.{Name}
 use Rattle.server_rules.specs.Event.{Setting}
 use Rattle.server_rules.specs.Answer.{Answer, after_attach, begun}
@@ -10,6 +11,7 @@ use Rattle.server_core.specs.One.{answer_of}
 use Rattle.server_core.specs.Sessions.{is_kept_as}
 use Rattle.server_core.specs.Server.{Kept, Stands}
 use Rattle.server_core.proofs.Attached.{none-gives}
+use Rattle.server_core.proofs.Desked.{does}
 use Rattle.server_core.proofs.Lists.{no-place}
 use Rattle.server_core.proofs.Sending.{nothing-sent}
 use Rattle.server_core.proofs.Speaking.{none-at, sessions-have_room}
@@ -21,7 +23,8 @@ both (Ok x) P Q R follows holds is = follows x holds is
 both (Err error) P Q R follows holds is = tt
 
 pub returns-in-None-clause-given : goal.returns-in-None-clause-given
-returns-in-None-clause-given g c = λ keys server stands.
+returns-in-None-clause-given g c = λ keys server is.
+    let stands = is.stands in
     let K : Type 0 = Kept g.row.S.Denot in
     let D : Type 0 = g.row.D.Denot in
     let name : Name = record { key = c.args.key; session = c.args.session } in
@@ -49,14 +52,25 @@ returns-in-None-clause-given g c = λ keys server stands.
       sent = nothing-sent lock ring [] effects.out.outs refl nothing.0;
       entered = nothing.1;
     }) in
-    both c.passes.result P Q R follows (c.passes.ensures.stands server stands) c.passes.ensures.nothing
+    let early : setting.now ≤ latest_moment = subst (λ (at : ℕ). at ≤ latest_moment) moment c.is_early.ensures in
+    does g.row.S.Denot D lock ring c.passes.new.self c.args.draw.now (λ (effects : Effects). effects) (after_attach setting name server c.args.draw.now) c.passes.result
+    (c.events_keep_order.ensures.attach setting name server c.args.draw.now early is.between)
+    (both c.passes.result P Q R follows (c.passes.ensures.stands server stands) c.passes.ensures.nothing)
 
 pub returns-in-Some-clause-given : goal.returns-in-Some-clause-given
-returns-in-Some-clause-given g c = λ keys server stands.
+returns-in-Some-clause-given g c = λ keys server is.
     let K : Type 0 = Kept g.row.S.Denot in
+    let D : Type 0 = g.row.D.Denot in
+    let lock = g.S.Seal.lock in
+    let ring = g.S.Seal.keys c.args.self.now.seal in
+    let draw = c.args.draw.now in
+    let setting : Setting D = setting_of (max c.args.self.now.moment c.args.now) g.D.Draw.step keys in
     let name : Name = record { key = c.args.key; session = c.args.session } in
     let moment : c.later-moment.result ≡ max c.args.self.now.moment c.args.now =
     c.later-moment.ensures ∙ ap (λ (kept : K). max kept.moment c.args.now) c.self.view_is in
-    subst (λ (now : ℕ). IfOk c.attach_at.result (λ effects. Gives {S = g.row.S.Denot} {D = g.row.D.Denot} g.S.Seal.lock (g.S.Seal.keys c.args.self.now.seal)
-    c.attach_at.new.self c.attach_at.new.draw effects (after_attach (setting_of now g.D.Draw.step keys) name server c.args.draw.now)))
-    moment (c.attach_at.ensures.given keys server stands)
+    let early : setting.now ≤ latest_moment = subst (λ (at : ℕ). at ≤ latest_moment) moment c.is_early.ensures in
+    does g.row.S.Denot D lock ring c.attach_at.new.self c.attach_at.new.draw (λ (effects : Effects). effects) (after_attach setting name server draw) c.attach_at.result
+    (c.events_keep_order.ensures.attach setting name server draw early is.between)
+    (subst (λ (now : ℕ). IfOk c.attach_at.result (λ effects. Gives {S = g.row.S.Denot} {D = D} lock ring
+    c.attach_at.new.self c.attach_at.new.draw effects (after_attach (setting_of now g.D.Draw.step keys) name server draw)))
+    moment (c.attach_at.ensures.given keys server is.stands))

@@ -22,7 +22,8 @@ invariant_of-self g c =
     subst P (sym c.take_out.ensures.others) sound
 
 pub returns-clause-found : goal.returns-clause-found
-returns-clause-found g c = λ server stands.
+returns-clause-found g c = λ server is.
+    let stands = is.stands in
     let name : Name = record { key = c.args.key; session = c.args.session } in
     let K : Type 0 = Kept g.row.S.Denot in
     let inside = subst (λ (kept : K). Stands kept server) (sym c.self.view_is) stands in
@@ -31,15 +32,18 @@ returns-clause-found g c = λ server stands.
     ∙ same-found c.sessions_stand_later.ensures.name c.self.inside.moment name c.self.inside.sessions server.sessions inside.sessions)
 
 pub returns-clause-stands : goal.returns-clause-stands
-returns-clause-stands g c = λ server stands.
+returns-clause-stands g c = λ server is.
     let name : Name = record { key = c.args.key; session = c.args.session } in
     let K : Type 0 = Kept g.row.S.Denot in
-    let inside = subst (λ (kept : K). Stands kept server) (sym c.self.view_is) stands in
+    let inside = subst (λ (kept : K). Stands kept server) (sym c.self.view_is) is.stands in
     let moment = c.self.inside.moment in
     let kept = others-kept c.sessions_stand_later.ensures.name moment name c.self.inside.sessions server.sessions inside.sessions in
     record {
-      moment = inside.moment;
-      sessions = subst (λ (standings : List SessionState). AreKept moment standings (without_session name server.sessions)) (sym c.take_out.ensures.others) kept;
-      jobs = ap (λ (held : Held). held.jobs) c.forget.ensures ∙ ap (without_jobs_of c.args.key c.args.session) inside.jobs;
-      bindings = inside.bindings;
+      stands = record {
+        moment = inside.moment;
+        sessions = subst (λ (standings : List SessionState). AreKept moment standings (without_session name server.sessions)) (sym c.take_out.ensures.others) kept;
+        jobs = ap (λ (held : Held). held.jobs) c.forget.ensures ∙ ap (without_jobs_of c.args.key c.args.session) inside.jobs;
+        bindings = inside.bindings;
+      };
+      between = c.losses_keep_order.ensures.loss name server is.between;
     }

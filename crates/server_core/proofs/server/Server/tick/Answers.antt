@@ -1,5 +1,6 @@
-use Rattle.std.proofs.Common.{◌≡◌, ◌∙◌, ℕ, Result, Ok, Err, [], max, ap, sym, subst, refl}
+use Rattle.std.proofs.Common.{◌≡◌, ◌∙◌, ◌≤◌, ℕ, Result, Ok, Err, [], max, ap, sym, subst, refl}
 use Rattle.std.specs.Prelude.{IfOk, OnOk}
+use Rattle.msg_ids.specs.Moments.{latest_moment}
 use Rattle.waits.specs.Jobs.{overdue_count}
 use Rattle.server_rules.specs.Event.{Setting}
 use Rattle.server_rules.specs.Answer.{Answer, after_tick, begun}
@@ -8,6 +9,7 @@ use Rattle.server_core.specs.declared.effects.Effects.{Effects}
 use Rattle.server_core.specs.Effects.{Gives}
 use Rattle.server_core.specs.One.{answer_of}
 use Rattle.server_core.specs.Server.{Kept, Stands}
+use Rattle.server_core.proofs.Desked.{does}
 use Rattle.server_core.proofs.Sending.{nothing-sent}
 use Rattle.server_core.proofs.Speaking.{sessions-have_room}
 use Rattle.server_core.proofs.server.Server.tick.Goals as goal
@@ -18,7 +20,9 @@ both (Ok x) P Q R follows holds is = follows x holds is
 both (Err error) P Q R follows holds is = tt
 
 pub returns-then-overdue-eq0-clause-given : goal.returns-then-overdue-eq0-clause-given
-returns-then-overdue-eq0-clause-given g c = λ keys server stands order.
+returns-then-overdue-eq0-clause-given g c = λ keys server is.
+    let stands = is.stands in
+    let order = is.between.order in
     let K : Type 0 = Kept g.row.S.Denot in
     let D : Type 0 = g.row.D.Denot in
     let lock = g.S.Seal.lock in
@@ -44,13 +48,24 @@ returns-then-overdue-eq0-clause-given g c = λ keys server stands order.
       sent = nothing-sent lock ring [] effects.out.outs refl nothing.0;
       entered = nothing.1;
     }) in
-    both c.passes.result P Q R follows (c.passes.ensures.stands server stands) c.passes.ensures.nothing
+    let early : now ≤ latest_moment = subst (λ (at : ℕ). at ≤ latest_moment) moment c.is_early.ensures in
+    does g.row.S.Denot D lock ring c.passes.new.self draw (λ (effects : Effects). effects) (after_tick setting server draw) c.passes.result
+    (c.events_keep_order.ensures.tick setting server draw early is.between)
+    (both c.passes.result P Q R follows (c.passes.ensures.stands server stands) c.passes.ensures.nothing)
 
 pub returns-else-overdue-eq0-clause-given : goal.returns-else-overdue-eq0-clause-given
-returns-else-overdue-eq0-clause-given g c = λ keys server stands order.
+returns-else-overdue-eq0-clause-given g c = λ keys server is.
     let K : Type 0 = Kept g.row.S.Denot in
+    let D : Type 0 = g.row.D.Denot in
+    let lock = g.S.Seal.lock in
+    let ring = g.S.Seal.keys c.args.self.now.seal in
+    let draw = c.args.draw.now in
+    let setting : Setting D = setting_of (max c.args.self.now.moment c.args.now) g.D.Draw.step keys in
     let moment : c.later-moment.result ≡ max c.args.self.now.moment c.args.now =
     c.later-moment.ensures ∙ ap (λ (kept : K). max kept.moment c.args.now) c.self.view_is in
-    subst (λ (now : ℕ). IfOk c.ticks_due.result (λ effects. Gives {S = g.row.S.Denot} {D = g.row.D.Denot} g.S.Seal.lock (g.S.Seal.keys c.args.self.now.seal)
-    c.ticks_due.new.self c.ticks_due.new.draw effects (after_tick (setting_of now g.D.Draw.step keys) server c.args.draw.now)))
-    moment (c.ticks_due.ensures.given keys server stands order)
+    let early : setting.now ≤ latest_moment = subst (λ (at : ℕ). at ≤ latest_moment) moment c.is_early.ensures in
+    does g.row.S.Denot D lock ring c.ticks_due.new.self c.ticks_due.new.draw (λ (effects : Effects). effects) (after_tick setting server draw) c.ticks_due.result
+    (c.events_keep_order.ensures.tick setting server draw early is.between)
+    (subst (λ (now : ℕ). IfOk c.ticks_due.result (λ effects. Gives {S = g.row.S.Denot} {D = D} lock ring
+    c.ticks_due.new.self c.ticks_due.new.draw effects (after_tick (setting_of now g.D.Draw.step keys) server draw)))
+    moment (c.ticks_due.ensures.given keys server is.stands is.between.order))

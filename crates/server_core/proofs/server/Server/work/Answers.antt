@@ -1,11 +1,19 @@
-use Rattle.std.proofs.Common.{◌≡◌, ◌∙◌, ◌≤◌, ℕ, Some, List, ap, sym, subst}
-use Rattle.std.specs.Prelude.{length}
+use Rattle.std.proofs.Common.{◌≡◌, ◌∙◌, ◌≤◌, ℕ, Some, List, max, ap, sym, subst}
+use Rattle.std.specs.Prelude.{IfOk, length}
+use Rattle.msg_ids.specs.Moments.{latest_moment}
 use Rattle.regs_service.specs.Served.{reply_bytes_max}
 use Rattle.waits.specs.declared.job.Job.{Job}
 use Rattle.waits.specs.Jobs.{ready_job}
+use Rattle.server_rules.specs.Answer.{after_work}
+use Rattle.server_rules.specs.Event.{Setting}
 use Rattle.server_rules.specs.Server.{Name}
+use Rattle.server_session.specs.Says.{setting_of}
+use Rattle.server_core.specs.declared.effects.Effects.{Effects}
+use Rattle.server_core.specs.Desks.{IsShortRunAt}
+use Rattle.server_core.specs.Effects.{Gives}
 use Rattle.server_core.specs.Sessions.{is_kept_as}
 use Rattle.server_core.specs.Server.{Kept, Stands}
+use Rattle.server_core.proofs.Desked.{does-where}
 use Rattle.server_core.proofs.Lists.{no-place}
 use Rattle.server_core.proofs.Speaking.{none-at}
 use Rattle.server_core.proofs.Worked.{ready-stands}
@@ -13,7 +21,9 @@ use Rattle.server_core.proofs.Outcomes.{on-ok-each}
 use Rattle.server_core.proofs.server.Server.work.Goals as goal
 
 pub returns-in-None-clause-given : goal.returns-in-None-clause-given
-returns-in-None-clause-given g c = λ keys server stands order.
+returns-in-None-clause-given g c = λ keys server is.
+    let stands = is.stands in
+    let order = is.between.order in
     let K : Type 0 = Kept g.row.S.Denot in
     let job : Job = c.ready_at-job.result.now in
     let name : Name = record { key = job.key; session = job.session } in
@@ -24,7 +34,9 @@ returns-in-None-clause-given g c = λ keys server stands order.
     absurd (ready-stands server c.args.k job order (ap (ready_job c.args.k) (sym inside.jobs) ∙ c.ready_at-job.ensures) none)
 
 pub returns-in-None-clause-served : goal.returns-in-None-clause-served
-returns-in-None-clause-served g c = λ keys server stands order.
+returns-in-None-clause-served g c = λ keys server is.
+    let stands = is.stands in
+    let order = is.between.order in
     let K : Type 0 = Kept g.row.S.Denot in
     let job : Job = c.ready_at-job.result.now in
     let name : Name = record { key = job.key; session = job.session } in
@@ -35,7 +47,9 @@ returns-in-None-clause-served g c = λ keys server stands order.
     absurd (ready-stands server c.args.k job order (ap (ready_job c.args.k) (sym inside.jobs) ∙ c.ready_at-job.ensures) none)
 
 pub returns-in-None-clause-short : goal.returns-in-None-clause-short
-returns-in-None-clause-short g c = λ server stands order.
+returns-in-None-clause-short g c = λ server is.
+    let stands = is.stands in
+    let order = is.between.order in
     let K : Type 0 = Kept g.row.S.Denot in
     let job : Job = c.ready_at-job.result.now in
     let name : Name = record { key = job.key; session = job.session } in
@@ -46,7 +60,29 @@ returns-in-None-clause-short g c = λ server stands order.
     absurd (ready-stands server c.args.k job order (ap (ready_job c.args.k) (sym inside.jobs) ∙ c.ready_at-job.ensures) none)
 
 pub returns-in-Some-clause-short : goal.returns-in-Some-clause-short
-returns-in-Some-clause-short g c = λ server stands order.
+returns-in-Some-clause-short g c = λ server is.
+    let stands = is.stands in
     let reply : Job → List ℕ = λ job. (g.V.Service.step c.args.service.now job.request).0 in
     on-ok-each (λ job. ready_job c.args.k server.jobs ≡ Some job) (λ job. length (reply job) ≤ reply_bytes_max) c.work_at.result
     (λ job ready. c.work_at.ensures.short job (ap (ready_job c.args.k) stands.jobs ∙ ready))
+
+pub returns-in-Some-clause-given : goal.returns-in-Some-clause-given
+returns-in-Some-clause-given g c = λ keys server is.
+    let K : Type 0 = Kept g.row.S.Denot in
+    let D : Type 0 = g.row.D.Denot in
+    let lock = g.S.Seal.lock in
+    let ring = g.S.Seal.keys c.args.self.now.seal in
+    let serve = g.V.Service.step in
+    let service = c.args.service.now in
+    let draw = c.args.draw.now in
+    let setting : Setting D = setting_of (max c.args.self.now.moment c.args.now) g.D.Draw.step keys in
+    let moment : c.later-moment.result ≡ max c.args.self.now.moment c.args.now =
+    c.later-moment.ensures ∙ ap (λ (kept : K). max kept.moment c.args.now) c.self.view_is in
+    let early : setting.now ≤ latest_moment = subst (λ (at : ℕ). at ≤ latest_moment) moment c.is_early.ensures in
+    does-where g.row.S.Denot D (IsShortRunAt c.args.k serve service server) lock ring c.work_at.new.self c.work_at.new.draw (λ (effects : Effects). effects)
+    (after_work setting c.args.k serve service server draw).0 c.work_at.result
+    (returns-in-Some-clause-short g c server is)
+    (λ short. c.runs_keep_order.ensures setting c.args.k serve service server draw early short is.between)
+    (subst (λ (now : ℕ). IfOk c.work_at.result (λ effects. Gives {S = g.row.S.Denot} {D = D} lock ring
+    c.work_at.new.self c.work_at.new.draw effects (after_work (setting_of now g.D.Draw.step keys) c.args.k serve service server draw).0))
+    moment (c.work_at.ensures.given keys server is.stands is.between.order))

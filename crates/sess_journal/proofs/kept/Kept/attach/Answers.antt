@@ -4,7 +4,8 @@ use Rattle.sess_records.specs.declared.records.Event.{Event}
 use Rattle.sess_records.specs.declared.records.Event.TheVariants.{Attach}
 use Rattle.sess_records.specs.declared.records.Record.{Record}
 use Rattle.server_core.specs.declared.desk.DeskFault.TheVariants as faults
-use Rattle.server_core.specs.Effects.{Gives}
+use Rattle.server_core.specs.Desks.{Does}
+use Rattle.server_core.specs.Server.{StandsFor as IsServer}
 use Rattle.server_rules.specs.Answer.{Answer, after_attach}
 use Rattle.server_rules.specs.Server.{Name}
 use Rattle.server_session.specs.Says.{Keys, setting_of}
@@ -44,9 +45,7 @@ returns-then-not-gives_something-clause-journal g c = λ entries server keeps.
     let name : Name = record { key = c.args.key; session = c.args.session } in
     let answer : g.row.D.Denot → Keys → Answer g.row.D.Denot = λ draw ring. after_attach (setting_of (max server.now c.args.now) g.D.Draw.step ring) name server draw in
     let new : Seen g.row.K.Denot g.row.S.Denot g.row.D.Denot = record { server = c.attach.new.self; latest = c.later-moment.result; draw = c.attach.new.draw; book = c.self.inside.book } in
-    let occurs : (ring : Keys) → Occurs stage (Attach c.args.key c.args.session) (answer inside.draw ring) =
-    λ ring. attach_occurs stage name ring c.keys_are_asked_by_packets_alone.ensures.attach c.events_draw_words.ensures.attach c.events_keep_order.ensures.attach in
-    let gives : (ring : Keys) → Gives g.S.Seal.lock (g.S.Seal.keys inside.server.seal) new.server new.draw c.in-Ok.effects (answer inside.draw ring) =
+    let gives : (ring : Keys) → Does (IsServer new.server) g.S.Seal.lock (g.S.Seal.keys inside.server.seal) new.draw c.in-Ok.effects (answer inside.draw ring) =
     λ ring. gives_now stage g.S.Seal.lock (g.S.Seal.keys inside.server.seal) new.server new.draw c.in-Ok.effects (λ n. after_attach (setting_of n g.D.Draw.step ring) name server inside.draw) (c.in-Ok.ensures.given ring server stage.keeps.stands) in
     let nothing : GivesNothing c.in-Ok.effects = c.gives_something.ensures.0 c.if-not-gives_something.true in
     let room : LeaveRoom g.row.D.Denot = record {
@@ -60,8 +59,8 @@ returns-then-not-gives_something-clause-journal g c = λ entries server keeps.
       record { none = λ _. refl; one = λ some. absurd (some nothing) },
       λ ring.
           does_quiet stage g.S.Seal.lock (g.S.Seal.keys inside.server.seal) new c.in-Ok.effects (answer inside.draw ring) (gives ring)
-          (c.quiet_events_change_nothing.ensures.attach (setting_of (max server.now c.args.now) g.D.Draw.step ring) name server inside.draw stage.keeps.between.order (keeps_room stage room) (none_sent g.S.Seal.lock (g.S.Seal.keys inside.server.seal) (answer inside.draw ring).packets c.in-Ok.effects.out.outs (gives ring).sent nothing.0))
-          (occurs ring).between c.in-Ok.ensures.same_seal c.later-moment.ensures refl,
+          (c.quiet_events_change_nothing.ensures.attach (setting_of (max server.now c.args.now) g.D.Draw.step ring) name server inside.draw stage.keeps.stands.between.order (keeps_room stage room) (none_sent g.S.Seal.lock (g.S.Seal.keys inside.server.seal) (answer inside.draw ring).packets c.in-Ok.effects.out.outs (gives ring).sent nothing.0))
+          c.in-Ok.ensures.same_seal c.later-moment.ensures refl,
     ))
 
 pub returns-in_err-add-clause-journal : goal.returns-in_err-add-clause-journal
@@ -74,7 +73,7 @@ returns-in_err-add-clause-journal g c = λ entries server keeps.
     let answer : g.row.D.Denot → Keys → Answer g.row.D.Denot = λ draw ring. after_attach (setting_of (max server.now c.args.now) g.D.Draw.step ring) name server draw in
     let new : Seen g.row.K.Denot g.row.S.Denot g.row.D.Denot = record { server = c.attach.new.self; latest = c.later-moment.result; draw = c.attach.new.draw; book = c.add.new.self } in
     let occurs : (ring : Keys) → Occurs stage (Attach c.args.key c.args.session) (answer inside.draw ring) =
-    λ ring. attach_occurs stage name ring c.keys_are_asked_by_packets_alone.ensures.attach c.events_draw_words.ensures.attach c.events_keep_order.ensures.attach in
+    λ ring. attach_occurs stage name ring c.keys_are_asked_by_packets_alone.ensures.attach c.events_draw_words.ensures.attach in
     let event : Event (List ℕ) = Attach c.args.key c.args.session in
     let due : Record = entry_at g.D.Seeded.place_of inside c.args.now event in
     let entry : Record = record { moment = c.seconds.result; place = c.place-place.result; event = event } in
@@ -97,8 +96,8 @@ returns-clause-journal g c = λ entries server keeps.
     let answer : g.row.D.Denot → Keys → Answer g.row.D.Denot = λ draw ring. after_attach (setting_of (max server.now c.args.now) g.D.Draw.step ring) name server draw in
     let new : Seen g.row.K.Denot g.row.S.Denot g.row.D.Denot = record { server = c.attach.new.self; latest = c.later-moment.result; draw = c.attach.new.draw; book = c.add.new.self } in
     let occurs : (ring : Keys) → Occurs stage (Attach c.args.key c.args.session) (answer inside.draw ring) =
-    λ ring. attach_occurs stage name ring c.keys_are_asked_by_packets_alone.ensures.attach c.events_draw_words.ensures.attach c.events_keep_order.ensures.attach in
-    let gives : (ring : Keys) → Gives g.S.Seal.lock (g.S.Seal.keys inside.server.seal) new.server new.draw c.in-Ok.effects (answer inside.draw ring) =
+    λ ring. attach_occurs stage name ring c.keys_are_asked_by_packets_alone.ensures.attach c.events_draw_words.ensures.attach in
+    let gives : (ring : Keys) → Does (IsServer new.server) g.S.Seal.lock (g.S.Seal.keys inside.server.seal) new.draw c.in-Ok.effects (answer inside.draw ring) =
     λ ring. gives_now stage g.S.Seal.lock (g.S.Seal.keys inside.server.seal) new.server new.draw c.in-Ok.effects (λ n. after_attach (setting_of n g.D.Draw.step ring) name server inside.draw) (c.in-Ok.ensures.given ring server stage.keeps.stands) in
     let event : Event (List ℕ) = Attach c.args.key c.args.session in
     let due : Record = entry_at g.D.Seeded.place_of inside c.args.now event in

@@ -23,7 +23,7 @@ returns-in_err-add-clause-journal g c = λ entries server keeps.
     let stage : Stage bases g.K.Disk.told entries inside server c.args.now =
     c.events_begin.ensures.at entries inside server c.args.now (subst (λ (d : Seen g.row.K.Denot g.row.S.Denot g.row.D.Denot). KeepsFor bases g.K.Disk.told entries d server) (sym c.self.view_is) keeps) c.is_early.ensures in
     let below : c.args.k < ready_count server.jobs =
-    subst (λ (q : Queue). c.args.k < ready_count q) stage.keeps.stands.jobs (subst (λ (d : Seen g.row.K.Denot g.row.S.Denot g.row.D.Denot). c.args.k < ready_count d.server.jobs) (sym c.self.view_is) c.requires.ready) in
+    subst (λ (q : Queue). c.args.k < ready_count q) stage.keeps.stands.stands.jobs (subst (λ (d : Seen g.row.K.Denot g.row.S.Denot g.row.D.Denot). c.args.k < ready_count d.server.jobs) (sym c.self.view_is) c.requires.ready) in
     let event : Event (List ℕ) = Begin c.args.k in
     let due : Record = entry_at g.D.Seeded.place_of inside c.args.now event in
     let entry : Record = record { moment = c.seconds.result; place = c.place-place.result; event = event } in
@@ -43,7 +43,7 @@ returns-clause-journal g c = λ entries server keeps.
     let stage : Stage bases g.K.Disk.told entries inside server c.args.now =
     c.events_begin.ensures.at entries inside server c.args.now (subst (λ (d : Seen g.row.K.Denot g.row.S.Denot g.row.D.Denot). KeepsFor bases g.K.Disk.told entries d server) (sym c.self.view_is) keeps) c.is_early.ensures in
     let below : c.args.k < ready_count server.jobs =
-    subst (λ (q : Queue). c.args.k < ready_count q) stage.keeps.stands.jobs (subst (λ (d : Seen g.row.K.Denot g.row.S.Denot g.row.D.Denot). c.args.k < ready_count d.server.jobs) (sym c.self.view_is) c.requires.ready) in
+    subst (λ (q : Queue). c.args.k < ready_count q) stage.keeps.stands.stands.jobs (subst (λ (d : Seen g.row.K.Denot g.row.S.Denot g.row.D.Denot). c.args.k < ready_count d.server.jobs) (sym c.self.view_is) c.requires.ready) in
     let event : Event (List ℕ) = Begin c.args.k in
     let due : Record = entry_at g.D.Seeded.place_of inside c.args.now event in
     let entry : Record = record { moment = c.seconds.result; place = c.place-place.result; event = event } in

@@ -52,8 +52,7 @@ returns-in_err-add-clause-journal g c = λ entries server has.
     let service : g.row.D.Denot → Keys → g.row.V.Denot = λ draw ring. (after_work (setting_of (max server.now c.args.now) g.D.Draw.step ring) c.args.k g.V.Service.step c.args.service.now server draw).1 in
     let occurs : (ring : Keys) → Occurs stage (Ran reply) (answer inside.draw ring) =
     λ ring.
-    run_occurs stage c.args.k g.V.Service.step c.args.service.now ring staged.begun c.keys_are_asked_by_packets_alone.ensures.work c.events_draw_words.ensures.work c.runs_keep_order.ensures
-    (c.in-Ok-work.ensures.short server stage.keeps.stands stage.keeps.between.order) in
+    run_occurs stage c.args.k g.V.Service.step c.args.service.now ring staged.begun c.keys_are_asked_by_packets_alone.ensures.work c.events_draw_words.ensures.work in
     let due : Record = entry_at g.D.Seeded.place_of inside c.args.now (Ran reply) in
     let entry : Record = record { moment = c.seconds.result; place = c.place-place.result; event = Ran c.as_slice-reply.result.now } in
     let asked : c.as_slice-reply.result.now ≡ reply =
@@ -80,8 +79,7 @@ returns-clause-journal g c = λ entries server has.
     let service : g.row.D.Denot → Keys → g.row.V.Denot = λ draw ring. (after_work (setting_of (max server.now c.args.now) g.D.Draw.step ring) c.args.k g.V.Service.step c.args.service.now server draw).1 in
     let occurs : (ring : Keys) → Occurs stage (Ran reply) (answer inside.draw ring) =
     λ ring.
-    run_occurs stage c.args.k g.V.Service.step c.args.service.now ring staged.begun c.keys_are_asked_by_packets_alone.ensures.work c.events_draw_words.ensures.work c.runs_keep_order.ensures
-    (c.in-Ok-work.ensures.short server stage.keeps.stands stage.keeps.between.order) in
+    run_occurs stage c.args.k g.V.Service.step c.args.service.now ring staged.begun c.keys_are_asked_by_packets_alone.ensures.work c.events_draw_words.ensures.work in
     let due : Record = entry_at g.D.Seeded.place_of inside c.args.now (Ran reply) in
     let entry : Record = record { moment = c.seconds.result; place = c.place-place.result; event = Ran c.as_slice-reply.result.now } in
     let asked : c.as_slice-reply.result.now ≡ reply =
@@ -98,8 +96,8 @@ returns-clause-journal g c = λ entries server has.
       λ ring. (
         does_recorded stage (Ran reply) (answer inside.draw ring) (occurs ring) g.S.Seal.lock (g.S.Seal.keys inside.server.seal) new c.in-Ok-work.effects added.0
             (gives_now stage g.S.Seal.lock (g.S.Seal.keys inside.server.seal) new.server new.draw c.in-Ok-work.effects (λ n. (after_work (setting_of n g.D.Draw.step ring) c.args.k g.V.Service.step c.args.service.now server inside.draw).0)
-            (c.in-Ok-work.ensures.given ring server stage.keeps.stands stage.keeps.between.order)) c.in-Ok-work.ensures.same_seal c.later-moment.ensures added.1 added.2,
-        subst (λ (n : ℕ). c.work.new.service ≡ (after_work (setting_of (max n c.args.now) g.D.Draw.step ring) c.args.k g.V.Service.step c.args.service.now server inside.draw).1) stage.keeps.stands.moment
-            (c.in-Ok-work.ensures.served ring server stage.keeps.stands stage.keeps.between.order),
+            (c.in-Ok-work.ensures.given ring server stage.keeps.stands)) c.in-Ok-work.ensures.same_seal c.later-moment.ensures added.1 added.2,
+        subst (λ (n : ℕ). c.work.new.service ≡ (after_work (setting_of (max n c.args.now) g.D.Draw.step ring) c.args.k g.V.Service.step c.args.service.now server inside.draw).1) stage.keeps.stands.stands.moment
+            (c.in-Ok-work.ensures.served ring server stage.keeps.stands),
       ),
     ))

@@ -50,7 +50,7 @@ returns-in-NotOpened-clause-journal g c = λ entries server keeps.
     let keys = g.S.Seal.keys inside.server.seal in
     let heard : IsHeardOf lock keys (max inside.server.moment c.args.now) c.args.packet.now c.in-Ok.reply.heard = c.in-Ok.ensures.heard in
     let heard_now : IsHeardOf lock keys (max server.now c.args.now) c.args.packet.now c.in-Ok.reply.heard =
-    subst (λ (n : ℕ). IsHeardOf lock keys (max n c.args.now) c.args.packet.now c.in-Ok.reply.heard) stage.keeps.stands.moment heard in
+    subst (λ (n : ℕ). IsHeardOf lock keys (max n c.args.now) c.args.packet.now c.in-Ok.reply.heard) stage.keeps.stands.stands.moment heard in
     let refusal = c.in-NotOpened.field-0 in
     let refused : IsRefused lock keys (max inside.server.moment c.args.now) Up c.args.packet.now refusal =
     subst (λ (h : Heard). IsHeardOf lock keys (max inside.server.moment c.args.now) c.args.packet.now h) c.in-NotOpened.is heard in
@@ -59,7 +59,7 @@ returns-in-NotOpened-clause-journal g c = λ entries server keeps.
     subst (λ (d : Seen g.row.K.Denot g.row.S.Denot g.row.D.Denot). HearJournals bases g.K.Disk.told g.D.Seeded.place_of g.S.Seal.lock g.S.Seal.keys answer entries server c.args.now c.args.packet.now new (Ok c.in-Ok.reply) d) c.self.view_is
     (quiet_journals stage new c.in-Ok.reply refl (
       heard_now,
-      by_not_opened _ _ c.in-Ok.reply.heard refusal c.in-NotOpened.is (refl, hears_nothing stage c.sessions_stand_later.ensures.later new c.in-Ok.reply nothing c.later-moment.ensures refl),
+      by_not_opened _ _ c.in-Ok.reply.heard refusal c.in-NotOpened.is (refl, hears_nothing stage new c.in-Ok.reply nothing (c.in-Ok.ensures.stays server refusal stage.keeps.stands refused) c.later-moment.ensures refl),
     ))
 
 pub returns-in_err-add-in-Judged-clause-journal : goal.returns-in_err-add-in-Judged-clause-journal
@@ -72,12 +72,11 @@ returns-in_err-add-in-Judged-clause-journal g c = λ entries server keeps.
     let lock = g.S.Seal.lock in
     let keys = g.S.Seal.keys inside.server.seal in
     let heard_now : IsHeardOf lock keys (max server.now c.args.now) c.args.packet.now c.in-Ok.reply.heard =
-    subst (λ (n : ℕ). IsHeardOf lock keys (max n c.args.now) c.args.packet.now c.in-Ok.reply.heard) stage.keeps.stands.moment c.in-Ok.ensures.heard in
+    subst (λ (n : ℕ). IsHeardOf lock keys (max n c.args.now) c.args.packet.now c.in-Ok.reply.heard) stage.keeps.stands.stands.moment c.in-Ok.ensures.heard in
     let judged = subst (λ (h : Heard). IsHeardOf lock keys (max server.now c.args.now) c.args.packet.now h) c.in-Judged.is heard_now in
     let occurs : (ring : Keys) (envelope : Sealed) → AreOf keys ring → Opens lock keys (max server.now c.args.now) Up c.args.packet.now envelope → Occurs stage (Packet c.args.packet.now) (answer inside.draw ring envelope) =
     λ ring envelope of opens.
-    packet_occurs stage c.args.packet.now ring envelope (c.rings_say_one_thing.ensures keys ring (keys_of keys) of (c.rings_have_keys.ensures keys)) opens c.events_draw_words.ensures.packet
-    c.events_keep_order.ensures.packet in
+    packet_occurs stage c.args.packet.now ring envelope (c.rings_say_one_thing.ensures keys ring (keys_of keys) of (c.rings_have_keys.ensures keys)) opens c.events_draw_words.ensures.packet in
     let first = occurs (keys_of keys) judged.0 (c.rings_have_keys.ensures keys) judged.1 in
     let due : Record = entry_at g.D.Seeded.place_of inside c.args.now (Packet c.args.packet.now) in
     let entry : Record = record { moment = c.seconds.result; place = c.place-place.result; event = Packet c.args.packet.now } in
@@ -100,12 +99,11 @@ returns-in_ok-add-in-Judged-clause-journal g c = λ entries server keeps.
     let lock = g.S.Seal.lock in
     let keys = g.S.Seal.keys inside.server.seal in
     let heard_now : IsHeardOf lock keys (max server.now c.args.now) c.args.packet.now c.in-Ok.reply.heard =
-    subst (λ (n : ℕ). IsHeardOf lock keys (max n c.args.now) c.args.packet.now c.in-Ok.reply.heard) stage.keeps.stands.moment c.in-Ok.ensures.heard in
+    subst (λ (n : ℕ). IsHeardOf lock keys (max n c.args.now) c.args.packet.now c.in-Ok.reply.heard) stage.keeps.stands.stands.moment c.in-Ok.ensures.heard in
     let judged = subst (λ (h : Heard). IsHeardOf lock keys (max server.now c.args.now) c.args.packet.now h) c.in-Judged.is heard_now in
     let occurs : (ring : Keys) (envelope : Sealed) → AreOf keys ring → Opens lock keys (max server.now c.args.now) Up c.args.packet.now envelope → Occurs stage (Packet c.args.packet.now) (answer inside.draw ring envelope) =
     λ ring envelope of opens.
-    packet_occurs stage c.args.packet.now ring envelope (c.rings_say_one_thing.ensures keys ring (keys_of keys) of (c.rings_have_keys.ensures keys)) opens c.events_draw_words.ensures.packet
-    c.events_keep_order.ensures.packet in
+    packet_occurs stage c.args.packet.now ring envelope (c.rings_say_one_thing.ensures keys ring (keys_of keys) of (c.rings_have_keys.ensures keys)) opens c.events_draw_words.ensures.packet in
     let first = occurs (keys_of keys) judged.0 (c.rings_have_keys.ensures keys) judged.1 in
     let due : Record = entry_at g.D.Seeded.place_of inside c.args.now (Packet c.args.packet.now) in
     let entry : Record = record { moment = c.seconds.result; place = c.place-place.result; event = Packet c.args.packet.now } in
@@ -117,10 +115,10 @@ returns-in_ok-add-in-Judged-clause-journal g c = λ entries server keeps.
     → Does (KeepsFor bases g.K.Disk.told (entries ++ due ∷ []) new) lock keys new.draw (effects_in c.in-Ok.reply) (answer inside.draw ring envelope) =
     λ ring envelope of opens.
     let opens_then : Opens lock keys (max inside.server.moment c.args.now) Up c.args.packet.now envelope =
-    subst (λ (n : ℕ). Opens lock keys (max n c.args.now) Up c.args.packet.now envelope) (sym stage.keeps.stands.moment) opens in
+    subst (λ (n : ℕ). Opens lock keys (max n c.args.now) Up c.args.packet.now envelope) (sym stage.keeps.stands.stands.moment) opens in
     does_recorded stage (Packet c.args.packet.now) (answer inside.draw ring envelope) (occurs ring envelope of opens) lock keys new (effects_in c.in-Ok.reply) added.0
     (gives_now stage lock keys new.server new.draw (effects_in c.in-Ok.reply) (λ n. after_packet (setting_of n g.D.Draw.step ring) (brought_in envelope) server inside.draw)
-    (c.in-Ok.ensures.given ring server envelope of stage.keeps.stands stage.keeps.between.order opens_then)) c.in-Ok.ensures.same_seal c.later-moment.ensures added.1 added.2 in
+    (c.in-Ok.ensures.given ring server envelope of stage.keeps.stands opens_then)) c.in-Ok.ensures.same_seal c.later-moment.ensures added.1 added.2 in
     subst (λ (d : Seen g.row.K.Denot g.row.S.Denot g.row.D.Denot). HearJournals bases g.K.Disk.told g.D.Seeded.place_of g.S.Seal.lock g.S.Seal.keys answer entries server c.args.now c.args.packet.now new (Ok c.in-Ok.reply) d) c.self.view_is
     (added_by first new c.in-Ok.reply
     (left_in g.K.Disk.told entries entry due (its stage).file inside.book.journal c.add.new.self (its stage).opened due_is (its stage).holds c.in_ok-add-in-Judged.ensures.any_moment)

@@ -4,7 +4,8 @@ use Rattle.sess_records.specs.declared.records.Event.{Event}
 use Rattle.sess_records.specs.declared.records.Event.TheVariants.{Tick}
 use Rattle.sess_records.specs.declared.records.Record.{Record}
 use Rattle.server_core.specs.declared.desk.DeskFault.TheVariants as faults
-use Rattle.server_core.specs.Effects.{Gives}
+use Rattle.server_core.specs.Desks.{Does}
+use Rattle.server_core.specs.Server.{StandsFor as IsServer}
 use Rattle.server_rules.specs.Answer.{Answer, after_tick}
 use Rattle.server_session.specs.Says.{Keys, setting_of}
 use Rattle.sess_journal.specs.Keeping.{GivesNothing, KeepsFor, Seen, entry_at}
@@ -41,10 +42,8 @@ returns-then-not-gives_something-clause-journal g c = λ entries server keeps.
     c.events_begin.ensures.at entries inside server c.args.now (subst (λ (d : Seen g.row.K.Denot g.row.S.Denot g.row.D.Denot). KeepsFor bases g.K.Disk.told entries d server) (sym c.self.view_is) keeps) c.is_early.ensures in
     let answer : g.row.D.Denot → Keys → Answer g.row.D.Denot = λ draw ring. after_tick (setting_of (max server.now c.args.now) g.D.Draw.step ring) server draw in
     let new : Seen g.row.K.Denot g.row.S.Denot g.row.D.Denot = record { server = c.tick.new.self; latest = c.later-moment.result; draw = c.tick.new.draw; book = c.self.inside.book } in
-    let occurs : (ring : Keys) → Occurs stage (Tick) (answer inside.draw ring) =
-    λ ring. tick_occurs stage ring c.keys_are_asked_by_packets_alone.ensures.tick c.events_draw_words.ensures.tick c.events_keep_order.ensures.tick in
-    let gives : (ring : Keys) → Gives g.S.Seal.lock (g.S.Seal.keys inside.server.seal) new.server new.draw c.in-Ok.effects (answer inside.draw ring) =
-    λ ring. gives_now stage g.S.Seal.lock (g.S.Seal.keys inside.server.seal) new.server new.draw c.in-Ok.effects (λ n. after_tick (setting_of n g.D.Draw.step ring) server inside.draw) (c.in-Ok.ensures.given ring server stage.keeps.stands stage.keeps.between.order) in
+    let gives : (ring : Keys) → Does (IsServer new.server) g.S.Seal.lock (g.S.Seal.keys inside.server.seal) new.draw c.in-Ok.effects (answer inside.draw ring) =
+    λ ring. gives_now stage g.S.Seal.lock (g.S.Seal.keys inside.server.seal) new.server new.draw c.in-Ok.effects (λ n. after_tick (setting_of n g.D.Draw.step ring) server inside.draw) (c.in-Ok.ensures.given ring server stage.keeps.stands) in
     let nothing : GivesNothing c.in-Ok.effects = c.gives_something.ensures.0 c.if-not-gives_something.true in
     let room : LeaveRoom g.row.D.Denot = record {
       packet = c.events_leave_room.ensures.packet;
@@ -57,8 +56,8 @@ returns-then-not-gives_something-clause-journal g c = λ entries server keeps.
       record { none = λ _. refl; one = λ some. absurd (some nothing) },
       λ ring.
           does_quiet stage g.S.Seal.lock (g.S.Seal.keys inside.server.seal) new c.in-Ok.effects (answer inside.draw ring) (gives ring)
-          (c.quiet_events_change_nothing.ensures.tick (setting_of (max server.now c.args.now) g.D.Draw.step ring) server inside.draw stage.keeps.between.order (keeps_room stage room) (sym (gives ring).entered ∙ nothing.1))
-          (occurs ring).between c.in-Ok.ensures.same_seal c.later-moment.ensures refl,
+          (c.quiet_events_change_nothing.ensures.tick (setting_of (max server.now c.args.now) g.D.Draw.step ring) server inside.draw stage.keeps.stands.between.order (keeps_room stage room) (sym (gives ring).entered ∙ nothing.1))
+          c.in-Ok.ensures.same_seal c.later-moment.ensures refl,
     ))
 
 pub returns-in_err-add-clause-journal : goal.returns-in_err-add-clause-journal
@@ -70,7 +69,7 @@ returns-in_err-add-clause-journal g c = λ entries server keeps.
     let answer : g.row.D.Denot → Keys → Answer g.row.D.Denot = λ draw ring. after_tick (setting_of (max server.now c.args.now) g.D.Draw.step ring) server draw in
     let new : Seen g.row.K.Denot g.row.S.Denot g.row.D.Denot = record { server = c.tick.new.self; latest = c.later-moment.result; draw = c.tick.new.draw; book = c.add.new.self } in
     let occurs : (ring : Keys) → Occurs stage (Tick) (answer inside.draw ring) =
-    λ ring. tick_occurs stage ring c.keys_are_asked_by_packets_alone.ensures.tick c.events_draw_words.ensures.tick c.events_keep_order.ensures.tick in
+    λ ring. tick_occurs stage ring c.keys_are_asked_by_packets_alone.ensures.tick c.events_draw_words.ensures.tick in
     let event : Event (List ℕ) = Tick in
     let due : Record = entry_at g.D.Seeded.place_of inside c.args.now event in
     let entry : Record = record { moment = c.seconds.result; place = c.place-place.result; event = event } in
@@ -92,9 +91,9 @@ returns-clause-journal g c = λ entries server keeps.
     let answer : g.row.D.Denot → Keys → Answer g.row.D.Denot = λ draw ring. after_tick (setting_of (max server.now c.args.now) g.D.Draw.step ring) server draw in
     let new : Seen g.row.K.Denot g.row.S.Denot g.row.D.Denot = record { server = c.tick.new.self; latest = c.later-moment.result; draw = c.tick.new.draw; book = c.add.new.self } in
     let occurs : (ring : Keys) → Occurs stage (Tick) (answer inside.draw ring) =
-    λ ring. tick_occurs stage ring c.keys_are_asked_by_packets_alone.ensures.tick c.events_draw_words.ensures.tick c.events_keep_order.ensures.tick in
-    let gives : (ring : Keys) → Gives g.S.Seal.lock (g.S.Seal.keys inside.server.seal) new.server new.draw c.in-Ok.effects (answer inside.draw ring) =
-    λ ring. gives_now stage g.S.Seal.lock (g.S.Seal.keys inside.server.seal) new.server new.draw c.in-Ok.effects (λ n. after_tick (setting_of n g.D.Draw.step ring) server inside.draw) (c.in-Ok.ensures.given ring server stage.keeps.stands stage.keeps.between.order) in
+    λ ring. tick_occurs stage ring c.keys_are_asked_by_packets_alone.ensures.tick c.events_draw_words.ensures.tick in
+    let gives : (ring : Keys) → Does (IsServer new.server) g.S.Seal.lock (g.S.Seal.keys inside.server.seal) new.draw c.in-Ok.effects (answer inside.draw ring) =
+    λ ring. gives_now stage g.S.Seal.lock (g.S.Seal.keys inside.server.seal) new.server new.draw c.in-Ok.effects (λ n. after_tick (setting_of n g.D.Draw.step ring) server inside.draw) (c.in-Ok.ensures.given ring server stage.keeps.stands) in
     let event : Event (List ℕ) = Tick in
     let due : Record = entry_at g.D.Seeded.place_of inside c.args.now event in
     let entry : Record = record { moment = c.seconds.result; place = c.place-place.result; event = event } in

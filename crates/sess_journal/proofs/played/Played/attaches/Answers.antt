@@ -30,8 +30,7 @@ returns-clause-led g c = λ reached stands le.
           c.in_ok-attach.field-0 old.moment reached.server.now c.args.moment c.args.place c.new-now.result c.at.result
           (λ place words below. seeded_draws c.self.inside.seed place words below)
           (λ place below. seeded_places c.self.inside.seed place below)
-          c.ranges.place.fits at.stands.moment le at.between.at
-          (λ n early. c.events_keep_order.ensures.attach (setting_of n g.D.Draw.step keys) name reached.server draw early at.between)
+          c.ranges.place.fits at.stands.stands.moment le at.stands.between.at
           (λ n. c.events_draw_words.ensures.attach (setting_of n g.D.Draw.step keys) name reached.server draw)
           (λ n. refl) c.new-now.ensures c.at.ensures.standing
           (c.in_ok-attach.ensures.given keys reached.server at.stands) refl refl,

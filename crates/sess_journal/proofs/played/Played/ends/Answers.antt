@@ -26,10 +26,8 @@ returns-clause-ended g c = λ reached stands le.
           c.in_ok-work.field-0 old.moment reached.server.now c.args.moment c.args.place c.new-now.result c.at.result
           (λ place words below. seeded_draws c.self.inside.seed place words below)
           (λ place below. seeded_places c.self.inside.seed place below)
-          c.ranges.place.fits at.stands.moment le at.between.at
-          (λ n early. c.runs_keep_order.ensures (setting_of n g.D.Draw.step keys) job always c.args.recorded reached.server draw early
-          (c.in_ok-work.ensures.short reached.server at.stands at.between.order) at.between)
+          c.ranges.place.fits at.stands.stands.moment le at.stands.between.at
           (λ n. c.events_draw_words.ensures.work (setting_of n g.D.Draw.step keys) job always c.args.recorded reached.server draw)
           (λ n. reply_now (setting_of n g.D.Draw.step keys) job c.args.recorded reached.server draw) c.new-now.ensures c.at.ensures.standing
-          (c.in_ok-work.ensures.given keys reached.server at.stands at.between.order) refl refl,
+          (c.in_ok-work.ensures.given keys reached.server at.stands) refl refl,
     )

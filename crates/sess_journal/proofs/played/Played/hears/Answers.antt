@@ -20,7 +20,7 @@ returns-in-NotOpened-clause-unlawful g c = λ reached stands le is after leads.
     let at : StandsAt bases reached (record { seed = c.self.inside.seed; server = c.self.inside.server; latest = c.self.inside.latest; draw = c.self.inside.draw; begun = c.self.inside.begun }) =
     subst (λ (p : Player g.row.S.Denot g.row.D.Denot). StandsAt bases reached p) (sym c.self.view_is) stands in
     let envelope = leads.1.0 in
-    let moment = event_moment old.moment reached.server.now c.args.moment c.new-now.result at.stands.moment le at.between.at c.new-now.ensures in
+    let moment = event_moment old.moment reached.server.now c.args.moment c.new-now.result at.stands.stands.moment le at.stands.between.at c.new-now.ensures in
     let opens : Opens g.S.Seal.lock (g.S.Seal.keys old.seal) (moment_of c.args.moment) Up c.args.packet.now envelope =
     subst (λ (p : Player g.row.S.Denot g.row.D.Denot). Opens g.S.Seal.lock (g.S.Seal.keys p.server.seal) (moment_of c.args.moment) Up c.args.packet.now envelope) (sym c.self.view_is) leads.1.1 in
     refused_only g.S.Seal.lock (g.S.Seal.keys old.seal) (max old.moment c.new-now.result) c.args.packet.now c.in_ok-reply.reply.heard c.in-NotOpened.field-0
@@ -36,7 +36,7 @@ returns-clause-led g c = λ reached stands le.
     let old = c.self.inside.server in
     let at : StandsAt bases reached (record { seed = c.self.inside.seed; server = c.self.inside.server; latest = c.self.inside.latest; draw = c.self.inside.draw; begun = c.self.inside.begun }) =
     subst (λ (p : Player g.row.S.Denot g.row.D.Denot). StandsAt bases reached p) (sym c.self.view_is) stands in
-    let moment = event_moment old.moment reached.server.now c.args.moment c.new-now.result at.stands.moment le at.between.at c.new-now.ensures in
+    let moment = event_moment old.moment reached.server.now c.args.moment c.new-now.result at.stands.stands.moment le at.stands.between.at c.new-now.ensures in
     let keys = keys_of basis.keys in
     let draw = basis.at c.args.place in
     let heard : IsHeardOf g.S.Seal.lock (g.S.Seal.keys old.seal) (max old.moment c.new-now.result) c.args.packet.now c.in_ok-reply.reply.heard = c.in_ok-reply.ensures.heard in
@@ -57,9 +57,8 @@ returns-clause-led g c = λ reached stands le.
           (effects_in c.in_ok-reply.reply) old.moment reached.server.now c.args.moment c.args.place c.new-now.result c.at.result
           (λ place words below. seeded_draws c.self.inside.seed place words below)
           (λ place below. seeded_places c.self.inside.seed place below)
-          c.ranges.place.fits at.stands.moment le at.between.at
-          (λ n early. c.events_keep_order.ensures.packet (setting_of n g.D.Draw.step keys) (brought_in envelope) reached.server draw early at.between)
+          c.ranges.place.fits at.stands.stands.moment le at.stands.between.at
           (λ n. c.events_draw_words.ensures.packet (setting_of n g.D.Draw.step keys) (brought_in envelope) reached.server draw)
           (λ n. refl) c.new-now.ensures c.at.ensures.standing
-          (c.in_ok-reply.ensures.given keys reached.server envelope are at.stands at.between.order judged.1) refl refl,
+          (c.in_ok-reply.ensures.given keys reached.server envelope are at.stands judged.1) refl refl,
     )

@@ -24,11 +24,11 @@ returns-clause-stands g c = λ sealing world is stands.
     let name : Name = record { key = c.args.key; session = c.args.session } in
     let gives = at-clock lock ring c.attach.new.self c.attach.new.draw world.draw c.args.draw.now effects
     (λ moment draw. after_attach (setting_of moment setting.step (rings_of setting)) name world.server draw)
-    inside.server.moment world.server.now c.new-now.result world.clock stood.server.moment now stood.drawn
+    inside.server.moment world.server.now c.new-now.result world.clock stood.server.stands.moment now stood.drawn
     (c.in_ok-out.ensures.given (rings_of setting) world.server stood.server) in
     event-stands lock ring setting inside.server inside.moment inside.service inside.clock inside.past c.args.draw.now world (Attach world.clock name)
     c.attach.new.self c.later-self-inside.result inside.service c.attach.new.draw effects c.reserve.new.self c.takes.new.self
-    c.servers_stay_in_order.ensures.event both.0.seal stood
+    both.0.seal stood
     (gave lock ring c.attach.new.self c.attach.new.draw effects (after_attach (setting_of (max world.server.now (moment_of world.clock)) setting.step (rings_of setting)) name world.server world.draw) (course_in world) world.service refl refl gives)
     stood.service
     (c.later-self-inside.ensures ∙ ap (λ n. max n c.new-now.result) stood.moment ∙ ap (λ n. max world.server.now n) now)

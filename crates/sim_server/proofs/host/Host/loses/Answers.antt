@@ -16,6 +16,6 @@ returns-clause-stands g c = λ sealing draw world is stands.
     let stood = both.1 in
     let name : Name = record { key = c.args.key; session = c.args.session } in
     quiet-stands lock ring setting inside.server inside.moment inside.service inside.clock inside.past draw world (Loss name) c.lose.new.self inside.service
-    c.servers_stay_in_order.ensures.event both.0.seal stood
+    both.0.seal stood
     (record { stands = c.lose.ensures.stands world.server stood.server; drawn = stood.drawn; sent = tt; entered = refl })
     stood.service stood.moment

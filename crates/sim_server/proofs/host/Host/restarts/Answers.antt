@@ -16,7 +16,7 @@ returns-clause-stands g c = λ sealing draw world is stands.
     let both = subst (λ host. IsOf lock (g.S.Seal.keys host.server.seal) setting × Stands setting host draw world) (sym c.self.view_is) (is, stands) in
     let stood = both.1 in
     let served = quiet-stands lock ring setting inside.server inside.moment inside.service inside.clock inside.past draw world Restart c.restart.new.self c.fresh.result
-    c.servers_stay_in_order.ensures.event both.0.seal stood
+    both.0.seal stood
     (record { stands = c.restart.ensures.stands world.server stood.server; drawn = stood.drawn; sent = tt; entered = refl })
     c.fresh.ensures stood.moment in
     starts-again setting c.restart.new.self inside.moment c.fresh.result inside.clock inside.past c.starts_again.new.self draw (serves setting Restart world)

@@ -22,11 +22,11 @@ returns-clause-stands g c = λ sealing world is stands.
     let bytes = c.args.bytes.now in
     let now = c.new-now.ensures ∙ ap moment_of stood.clock in
     let opened = option_map as_heard (setting.opens (max world.server.now (moment_of world.clock)) Up bytes) in
-    let given = c.in_ok-out.ensures.given sealing world.server world.service world.clock both.0 now stood.server stood.order in
+    let given = c.in_ok-out.ensures.given sealing world.server world.service world.clock both.0 now stood.server in
     let did = subst (λ draw. Did lock ring c.hears.new.server c.hears.new.draw c.in_ok-out.field-0 (heard_by setting world.server world.service draw world.clock bytes)) stood.drawn given in
     event-stands lock ring setting inside.server inside.moment inside.service inside.clock inside.past c.args.draw.now world (Comes world.clock opened)
     c.hears.new.server c.later-self-inside.result inside.service c.hears.new.draw c.in_ok-out.field-0 c.reserve.new.self c.takes.new.self
-    c.servers_stay_in_order.ensures.event both.0.seal stood did
+    both.0.seal stood did
     (stood.service ∙ heard-service (at_server setting) setting.serve setting.fresh (course_in world) world.clock opened)
     (c.later-self-inside.ensures ∙ ap (λ n. max n c.new-now.result) stood.moment ∙ ap (λ n. max world.server.now n) now
     ∙ heard-now (at_server setting) setting.serve setting.fresh (course_in world) world.clock opened)

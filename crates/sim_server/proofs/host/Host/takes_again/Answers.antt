@@ -32,12 +32,12 @@ returns-clause-stands g c = λ sealing world named is stands there.
     ap (λ (packet : Packet). Some (packet_told packet)) (sym c.in-Some-Up.field-0-is) ∙ c.in-Some-Up.ensures ∙ ap (counted c.args.number) bag ∙ there in
     let now = c.new-now.ensures ∙ ap moment_of stood.clock in
     let opened = option_map as_heard (setting.opens (max world.server.now (moment_of world.clock)) Up bytes) in
-    let given = c.in_ok-out.ensures.given sealing world.server world.service world.clock both.0 now stood.server stood.order in
+    let given = c.in_ok-out.ensures.given sealing world.server world.service world.clock both.0 now stood.server in
     let did = subst (λ draw. Did lock ring c.hears.new.server c.hears.new.draw c.in_ok-out.field-0 (heard_by setting world.server world.service draw world.clock bytes)) stood.drawn given in
     subst (λ sent. Stands setting (host_of c.hears.new.server c.later-self-inside.result inside.service inside.clock c.takes.new.self) c.hears.new.draw (comes_up setting sent world)) (up-same bytes named told)
     (event-stands lock ring setting inside.server inside.moment inside.service inside.clock inside.past c.args.draw.now world (Comes world.clock opened)
     c.hears.new.server c.later-self-inside.result inside.service c.hears.new.draw c.in_ok-out.field-0 c.reserve.new.self c.takes.new.self
-    c.servers_stay_in_order.ensures.event both.0.seal stood did
+    both.0.seal stood did
     (stood.service ∙ heard-service (at_server setting) setting.serve setting.fresh (course_in world) world.clock opened)
     (c.later-self-inside.ensures ∙ ap (λ n. max n c.new-now.result) stood.moment ∙ ap (λ n. max world.server.now n) now
     ∙ heard-now (at_server setting) setting.serve setting.fresh (course_in world) world.clock opened)

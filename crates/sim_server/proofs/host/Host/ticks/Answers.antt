@@ -22,11 +22,11 @@ returns-clause-stands g c = λ sealing world is stands.
     let effects : Effects = c.in_ok-out.field-0 in
     let gives = at-clock lock ring c.tick.new.self c.tick.new.draw world.draw c.args.draw.now effects
     (λ moment draw. after_tick (setting_of moment setting.step (rings_of setting)) world.server draw)
-    inside.server.moment world.server.now c.new-now.result world.clock stood.server.moment now stood.drawn
-    (c.in_ok-out.ensures.given (rings_of setting) world.server stood.server stood.order) in
+    inside.server.moment world.server.now c.new-now.result world.clock stood.server.stands.moment now stood.drawn
+    (c.in_ok-out.ensures.given (rings_of setting) world.server stood.server) in
     event-stands lock ring setting inside.server inside.moment inside.service inside.clock inside.past c.args.draw.now world (Tick world.clock)
     c.tick.new.self c.later-self-inside.result inside.service c.tick.new.draw effects c.reserve.new.self c.takes.new.self
-    c.servers_stay_in_order.ensures.event both.0.seal stood
+    both.0.seal stood
     (gave lock ring c.tick.new.self c.tick.new.draw effects (after_tick (setting_of (max world.server.now (moment_of world.clock)) setting.step (rings_of setting)) world.server world.draw) (course_in world) world.service refl refl gives)
     stood.service
     (c.later-self-inside.ensures ∙ ap (λ n. max n c.new-now.result) stood.moment ∙ ap (λ n. max world.server.now n) now)

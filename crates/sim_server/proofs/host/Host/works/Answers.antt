@@ -26,16 +26,16 @@ returns-clause-stands g c = λ sealing world is stands.
     let place = c.args.place in
     let gives = run-at lock ring c.work.new.self c.work.new.draw world.draw c.args.draw.now world.service inside.service effects
     (λ moment draw service. after_work (setting_of moment setting.step (rings_of setting)) place setting.serve service world.server draw)
-    inside.server.moment world.server.now c.new-now.result world.clock stood.server.moment now stood.drawn stood.service
-    (c.in_ok-out.ensures.given (rings_of setting) world.server stood.server stood.order) in
+    inside.server.moment world.server.now c.new-now.result world.clock stood.server.stands.moment now stood.drawn stood.service
+    (c.in_ok-out.ensures.given (rings_of setting) world.server stood.server) in
     let served = served-at c.work.new.service world.service inside.service world.draw c.args.draw.now
     (λ moment draw service. after_work (setting_of moment setting.step (rings_of setting)) place setting.serve service world.server draw)
-    inside.server.moment world.server.now c.new-now.result world.clock stood.server.moment now stood.drawn stood.service
-    (c.in_ok-out.ensures.served (rings_of setting) world.server stood.server stood.order) in
+    inside.server.moment world.server.now c.new-now.result world.clock stood.server.stands.moment now stood.drawn stood.service
+    (c.in_ok-out.ensures.served (rings_of setting) world.server stood.server) in
     let moved = run-now (setting_at (at_server setting) world.clock world.server) place (ready_job place world.server.jobs) setting.serve world.service world.server world.draw in
     event-stands lock ring setting inside.server inside.moment inside.service inside.clock inside.past c.args.draw.now world (Work world.clock place)
     c.work.new.self c.later-self-inside.result c.work.new.service c.work.new.draw effects c.reserve.new.self c.takes.new.self
-    c.servers_stay_in_order.ensures.event both.0.seal stood
+    both.0.seal stood
     (gave lock ring c.work.new.self c.work.new.draw effects (after_work (setting_of (max world.server.now (moment_of world.clock)) setting.step (rings_of setting)) place setting.serve world.service world.server world.draw).0 (course_in world)
     (after_work (setting_of (max world.server.now (moment_of world.clock)) setting.step (rings_of setting)) place setting.serve world.service world.server world.draw).1 refl refl gives)
     served

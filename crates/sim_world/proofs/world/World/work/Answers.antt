@@ -2,7 +2,7 @@ use Rattle.std.proofs.Common.{◌≡◌, ◌-◌, ◌<◌, ℕ, Ok, suc, arith, 
 use Rattle.auth_keys.specs.Rings.{entry_of, key_in}
 use Rattle.client_core.specs.Flushed.{binding_under}
 use Rattle.sched_text.specs.declared.event.Event.TheVariants as line
-use Rattle.server_core.specs.Server.{Stands as ServerStands}
+use Rattle.server_core.specs.Server.{StandsFor}
 use Rattle.sim_server.specs.Settings.{IsOf, Sealing}
 use Rattle.sim_world.specs.Keys.{world_keys}
 use Rattle.sim_world.specs.Told.{Steps}
@@ -23,7 +23,7 @@ returns-then-job-eq0-clause-steps g c = λ sealing world is stands.
     (no-job setting world c.args.job (elim c.then-job-eq0.branch [
       | then-job-eq0-via-then-job-eq0 w ↦ λ some. let none = w.if-job-eq0.true in absurd (omega (arith, some, none))
       | then-job-eq0-via-else-job-eq0+then-job-ready w ↦ λ some.
-          let count = w.ready.ensures.stands world.server (subst (λ server. ServerStands server world.server) (sym w.server.ensures) stood.host.server) in
+          let count = w.ready.ensures.stands world.server (subst (λ server. StandsFor server world.server) (sym w.server.ensures) stood.host.server) in
           subst (λ (n : ℕ). n < c.args.job) count w.if-job-ready.true
     ])) stands.host.drawn
     (record { host = redrawn setting kept.host kept.draw kept.draw world stands.host; seats = stands.seats })
@@ -39,7 +39,7 @@ returns-clause-steps g c = λ sealing world is stands.
     let of = subst (λ kept. IsOf lock (g.S.Seal.keys kept.host.server.seal) setting) (sym c.self.view_is) is in
     let job = c.args.job in
     let place = job - 1 in
-    let count = c.ready.ensures.stands world.server (subst (λ server. ServerStands server world.server) (sym c.server.ensures) stood.host.server) in
+    let count = c.ready.ensures.stands world.server (subst (λ server. StandsFor server world.server) (sym c.server.ensures) stood.host.server) in
     let after : World g.row.S.Denot g.row.V.Denot g.row.D.Denot = record { host = c.works.new.self; seats = inside.seats; draw = c.works.new.draw } in
     let counted : job ≡ suc place = omega (arith, c.if-job-eq0.false) in
     subst (λ n. Steps setting world (line.Work n) (Ok tt) after) (sym counted)
