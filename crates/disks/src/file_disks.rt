@@ -21,6 +21,14 @@ pub struct FileDisk<F> {
 }
 
 impl<F: Read + Write + Seek + OpenFile + Drop> FileDisk<F> {
+    /// A file that std opened to be read and written, with no fault yet. Where it stands doesn't matter: each read and each
+    /// write moves it first.
+    pub fn new(file: F) -> FileDisk<F>
+        ensures no_fault_yet { ⟦<FileDisk<F> as Disk>⟧.faults result ≡ 0 }
+    {
+        FileDisk { file, faults: 0 }
+    }
+
     /// What std answers to a move to a place.
     fn move_to(&mut self, at: u64) -> io::Result<()>
         ensures there { OnOk result (StandsAt (F.stream_position self.old.file) at (F.stream_position self.new.file)) }
@@ -150,7 +158,7 @@ impl<R: Files + Drop> FileDisks<R> {
 }
 
 /// The answer of an attempt, by what std answered.
-pub(crate) fn open_of<F: Drop>(answer: io::Result<F>) -> DiskOpen<FileDisk<F>>
+fn open_of<F: Drop>(answer: io::Result<F>) -> DiskOpen<FileDisk<F>>
     ensures disk { IfOk answer (λ file. result ≡ DiskOpen.Disk (record { file = file; faults = 0 })) }
     ensures failed { IfErr answer (λ _. result ≡ DiskOpen.Failed) }
 {

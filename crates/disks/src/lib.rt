@@ -24,6 +24,3 @@ pub use file_disks::{FileDisk, FileDisks};
 pub use mem_disk::MemDisk;
 pub use mem_disks::MemDisks;
 pub use mem_file::MemFile;
-
-#[cfg(test)]
-mod tests;

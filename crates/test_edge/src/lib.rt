@@ -5,6 +5,8 @@
 #[cfg(test)]
 mod asked;
 #[cfg(test)]
+mod faulty_files;
+#[cfg(test)]
 mod files;
 #[cfg(test)]
 mod kids;

@@ -1,11 +1,11 @@
 //! A file of std that fails.
 
-use crate::file_disks::open_of;
-use crate::{Disk, DiskLen, DiskOpen};
+use disks::{Disk, DiskLen, FileDisk};
 use mt_edge::Act;
 use std::fs::{Metadata, OpenFile};
 use std::io::{self, ErrorKind, Read, Seek, SeekFrom, Write};
 use std::test::Fail;
+use test_asserts::same;
 
 /// A file that reads and writes, but moves only where it is asked to, and does nothing else.
 #[derive(Drop)]
@@ -59,33 +59,28 @@ impl OpenFile for Faulty {
 }
 
 /// What a file that moves, or doesn't, answers to a question for its length, and to a read, a write, a cut and a sync.
-fn answers_of(can_move: bool) -> Option<(DiskLen, [Act; 4])> {
-    let DiskOpen::Disk(mut disk) = open_of(Ok(Faulty { can_move })) else {
-        return None;
-    };
+fn answers_of(can_move: bool) -> (DiskLen, [Act; 4]) {
+    let mut disk = FileDisk::new(Faulty { can_move });
     let mut into = [0u8; 2];
     let len = disk.len();
-    Some((
-        len,
-        [
-            disk.read(0, &mut into),
-            disk.write(0, b"ab"),
-            disk.cut(0),
-            disk.sync(),
-        ],
-    ))
+    let acts = [
+        disk.read(0, &mut into),
+        disk.write(0, b"ab"),
+        disk.cut(0),
+        disk.sync(),
+    ];
+    (len, acts)
 }
 
 #[test]
 fn files_that_fail(rt: HostRuntime) -> Result<(), Fail> {
     use Act::{Failed, Ready};
-    assert_eq!(rt;
+    same(
         answers_of(true),
-        Some((DiskLen::Failed, [Ready, Failed, Failed, Failed]))
-    );
-    assert_eq!(rt;
+        (DiskLen::Failed, [Ready, Failed, Failed, Failed]),
+    )?;
+    same(
         answers_of(false),
-        Some((DiskLen::Failed, [Failed, Failed, Failed, Failed]))
-    );
-    Ok(())
+        (DiskLen::Failed, [Failed, Failed, Failed, Failed]),
+    )
 }
