@@ -1,111 +1,77 @@
--- Which job stands at a place, and what is left where it is taken out.
-use Rattle.std.proofs.Common.{◌≡◌, ℕ, zero, suc, ◌+◌, ◌<◌, ◌≤◌, Bool, ◌||◌, true, false, Option, None, Some, List, [], ◌∷◌, take, ap, sym, refl, subst, arith}
-use Rattle.std.specs.List.{list_any}
-use Rattle.waits.specs.declared.job.Unfinished.{Unfinished}
-use Rattle.waits.specs.declared.slot.Slot.{Slot}
-use Rattle.waits.specs.Jobs.{Queue, is_ready, one_if, ready_count, ready_job, without_ready, first_job, without_first}
-use Rattle.waits.specs.Slots.{with_any, somes, job_at, passes, put_at}
+-- Places of jobs among all: what a search over the sessions finds, and what is taken out.
+use Rattle.std.proofs.Common.{◌≡◌, ◌∙◌, ℕ, zero, suc, ◌+◌, ◌<◌, ◌≤◌, Bool, true, ◌&&◌, nat_lt, Option, Some, List, [], ◌∷◌, ◌++◌, length, take, get_or, ap, sym, refl, subst, arith}
+use Rattle.std.proofs.lemmas.List.{append-nil}
+use Rattle.std.specs.Prelude.{IfSome, IfNone}
+use Rattle.std.proofs.lemmas.Bool.{ltb-true, lt-ltb, and_parts}
+use Rattle.waits.specs.declared.stamped.Stamped.{Stamped}
+use Rattle.waits.specs.declared.wanted.First.{First}
+use Rattle.waits.specs.declared.owners.Place.{Place}
+use Rattle.waits.specs.Jobs.{one_if}
+use Rattle.waits.specs.Stamps.{count_before}
+use Rattle.waits.specs.Parts.{Part, all_of, IsFirst}
+use Rattle.waits.specs.Kept.{IsThere, job_at}
+use Rattle.waits.proofs.Sums.{weigh_append, tally_less}
+use Rattle.waits.proofs.Parts.{all_append}
+use Rattle.waits.proofs.Rising.{IsAt, element}
 
--- ---- the first one that is so
+both_of : (a b : Bool) → a ≡ true → b ≡ true → (a && b) ≡ true
+both_of a b one two = rw (one, two) refl
 
-pub record IsFirst (test : Unfinished → Bool) (xs ys : Queue) (x : Unfinished) : Type 0 where
-  pub job : first_job test xs ≡ Some x.job
-  pub others : without_first test xs ≡ ys
-  pub any : list_any test xs ≡ true
+-- a lesser limit
+pub fewer_before : (test : Stamped → Bool) (least limit : ℕ) → least ≤ limit → (xs : List Stamped) → count_before test least xs ≤ count_before test limit xs
+fewer_before test least limit less xs = tally_less (λ x. test x && nat_lt x.stamp least) (λ x. test x && nat_lt x.stamp limit) (λ x both. both_of (test x) (nat_lt x.stamp limit) (and_parts (test x) (nat_lt x.stamp least) both).0 (lt-ltb x.stamp limit (omega (arith, ltb-true x.stamp least (and_parts (test x) (nat_lt x.stamp least) both).1)))) xs
 
-first_step : (test : Unfinished → Bool) (one : Option Unfinished) (xs ys : Queue) (x : Unfinished) → passes test one ≡ false → IsFirst test xs ys x → IsFirst test (with_any one xs) (with_any one ys) x
-first_step test None xs ys x out later = later
-first_step test (Some y) xs ys x out later = record {
-  job = rw out later.job;
-  others = rw out (ap (λ (zs : Queue). y ∷ zs) later.others);
-  any = rw out later.any;
-}
+rest_at : (q : Part) (ps : List Part) (i : ℕ) (p : Part) → IsAt (q ∷ ps) (suc i) p → i < length ps → IsAt ps i p
+rest_at q ps i p one within =
+    let found = element ps i within in
+    let same : found.0 ≡ p = sym (found.1.there q) ∙ one.there q in
+    subst (λ (r : Part). IsAt ps i r) same found.1
 
-first_here : (test : Unfinished → Bool) (one : Option Unfinished) (xs : Queue) (x : Unfinished) → one ≡ Some x → test x ≡ true → IsFirst test (with_any one xs) xs x
-first_here test one xs x is here = subst (λ (o : Option Unfinished). IsFirst test (with_any o xs) xs x) (sym {A = Option Unfinished} is) (record { job = rw here refl; others = rw here refl; any = rw here refl })
+take_next : (ps : List Part) (i : ℕ) (p : Part) → IsAt ps i p → i < length ps → take (suc i) ps ≡ take i ps ++ p ∷ []
+take_next [] i p one within = absurd (omega arith)
+take_next (q ∷ ps) zero p one within = ap (λ (r : Part). r ∷ []) (one.there q)
+take_next (q ∷ ps) (suc i) p one within = ap (λ (rs : List Part). q ∷ rs) (take_next ps i p (rest_at q ps i p one (omega arith)) (omega arith))
 
-pub first_at : (test : Unfinished → Bool) (slots : List Slot) (p : ℕ) (x : Unfinished) → job_at slots p ≡ Some x → test x ≡ true → ((k : ℕ) → k < p → passes test (job_at slots k) ≡ false) → IsFirst test (somes slots) (somes (put_at p None slots)) x
-first_at test [] p x is here before = let clash : None ≡ Some x = is in cc
-first_at test (s ∷ ss) zero x is here before = first_here test s.one (somes ss) x is here
-first_at test (s ∷ ss) (suc p) x is here before =
-    first_step test s.one (somes ss) (somes (put_at p None ss)) x (before 0 (omega arith)) (first_at test ss p x is here (λ k below. before (suc k) (omega arith)))
+-- the jobs of the sessions that were passed
+pub passed_jobs : (ps : List Part) (i : ℕ) (p : Part) → IsAt ps i p → i < length ps → all_of (take (i + 1) ps) ≡ all_of (take i ps) ++ p.jobs
+passed_jobs ps i p one within =
+    let next : i + 1 ≡ suc i = omega arith in
+    ap (λ (n : ℕ). all_of (take n ps)) next ∙ (ap all_of (take_next ps i p one within) ∙ (all_append (take i ps) (p ∷ []) ∙ ap (λ (xs : List Stamped). all_of (take i ps) ++ xs) (append-nil p.jobs)))
 
--- one that is so tells that there is one
+-- a place was found, whose job passes the test and has this stamp
+pub record IsFound (test : Stamped → Bool) (ps : List Part) (least : ℕ) (place : Place) : Type 0 where
+  pub there : IsThere ps place
+  pub passes : (d : Part) (x : Stamped) → test (job_at ps place d x) ≡ true
+  pub stamp : (d : Part) (x : Stamped) → (job_at ps place d x).stamp ≡ least
 
-any_or : (a b : Bool) → b ≡ true → (a || b) ≡ true
-any_or true b is = refl
-any_or false b is = is
+-- so many sessions were passed, and none of their jobs that pass has a stamp below the least one that was found
+pub record IsSought (test : Stamped → Bool) (ps : List Part) (limit i least : ℕ) (found : Option Place) : Type 0 where
+  pub none : count_before test least (all_of (take i ps)) ≡ 0
+  pub some : IfSome found (IsFound test ps least)
+  pub nothing : IfNone found (least ≡ limit)
 
-any_step : (test : Unfinished → Bool) (one : Option Unfinished) (xs : Queue) → list_any test xs ≡ true → list_any test (with_any one xs) ≡ true
-any_step test None xs later = later
-any_step test (Some y) xs later = any_or (test y) (list_any test xs) later
+pub sought_on : (test : Stamped → Bool) (ps : List Part) (limit i least : ℕ) (found : Option Place) (p : Part) → IsAt ps i p → i < length ps → IsSought test ps limit i least found → count_before test least p.jobs ≡ 0 → IsSought test ps limit (i + 1) least found
+sought_on test ps limit i least found p one within sought none =
+    record {
+      none = omega (arith, ap (count_before test least) (passed_jobs ps i p one within), weigh_append (λ x. one_if (test x && nat_lt x.stamp least)) (all_of (take i ps)) p.jobs, sought.none, none);
+      some = sought.some;
+      nothing = sought.nothing;
+    }
 
-any_here : (test : Unfinished → Bool) (one : Option Unfinished) (xs : Queue) → passes test one ≡ true → list_any test (with_any one xs) ≡ true
-any_here test None xs is = let clash : false ≡ true = is in cc
-any_here test (Some y) xs is = rw is refl
+pub sought_here : (test : Stamped → Bool) (ps : List Part) (limit i least : ℕ) (found : Option Place) (p : Part) (first : First) → IsAt ps i p → i < length ps → IsSought test ps limit i least found → IsFirst test least p.jobs first → IsSought test ps limit (i + 1) first.stamp (Some (record { owner = i; at = first.at }))
+sought_here test ps limit i least found p first one within sought here =
+    record {
+      none = omega (arith, ap (count_before test first.stamp) (passed_jobs ps i p one within), weigh_append (λ x. one_if (test x && nat_lt x.stamp first.stamp)) (all_of (take i ps)) p.jobs, sought.none, fewer_before test first.stamp least (omega (arith, here.below)) (all_of (take i ps)), here.none);
+      some = record {
+        there = record { within = within; at = λ d. subst (λ (q : Part). first.at < length q.jobs) (sym (one.there d)) here.within };
+        passes = λ d x. ap (λ (q : Part). test (get_or q.jobs first.at x)) (one.there d) ∙ here.passes x;
+        stamp = λ d x. ap (λ (q : Part). (get_or q.jobs first.at x).stamp) (one.there d) ∙ here.stamp x;
+      };
+      nothing = tt;
+    }
 
-pub any_at : (test : Unfinished → Bool) (slots : List Slot) (p : ℕ) → passes test (job_at slots p) ≡ true → list_any test (somes slots) ≡ true
-any_at test [] p is = let clash : false ≡ true = is in cc
-any_at test (s ∷ ss) zero is = any_here test s.one (somes ss) is
-any_at test (s ∷ ss) (suc p) is = any_step test s.one (somes ss) (any_at test ss p is)
-
-pub record IsNone (test : Unfinished → Bool) (xs : Queue) : Type 0 where
-  pub job : first_job test xs ≡ None
-  pub others : without_first test xs ≡ xs
-  pub any : list_any test xs ≡ false
-
--- what stands at a place that is so
-
-pub record IsThere (test : Unfinished → Bool) (one : Option Unfinished) : Type 0 where
-  pub job : Unfinished
-  pub is : one ≡ Some job
-  pub so : test job ≡ true
-
-pub there : (test : Unfinished → Bool) (one : Option Unfinished) → passes test one ≡ true → IsThere test one
-there test None is = let clash : false ≡ true = is in cc
-there test (Some x) is = record { job = x; is = refl; so = is }
-
--- ---- the ready one of a place
-
-pub record IsReadyAt (k : ℕ) (xs ys : Queue) (x : Unfinished) : Type 0 where
-  pub job : ready_job k xs ≡ Some x.job
-  pub others : without_ready k xs ≡ ys
-
-ready_step : (y : Unfinished) (xs ys : Queue) (n k : ℕ) (x : Unfinished) (ready : Bool) → is_ready y ≡ ready → ((j : ℕ) → n ≡ j → IsReadyAt j xs ys x) → one_if ready + n ≡ k → IsReadyAt k (y ∷ xs) (y ∷ ys) x
-ready_step y xs ys n zero x true is later before = absurd (omega arith)
-ready_step y xs ys n (suc k) x true is later before =
-    let found = later k (omega arith) in
-    record { job = rw is found.job; others = rw is (ap (λ (zs : Queue). y ∷ zs) found.others) }
-ready_step y xs ys n zero x false is later before =
-    let found = later zero (omega arith) in
-    record { job = rw is found.job; others = rw is (ap (λ (zs : Queue). y ∷ zs) found.others) }
-ready_step y xs ys n (suc k) x false is later before =
-    let found = later (suc k) (omega arith) in
-    record { job = rw is found.job; others = rw is (ap (λ (zs : Queue). y ∷ zs) found.others) }
-
-ready_any : (one : Option Unfinished) (xs ys front : Queue) (k : ℕ) (x : Unfinished) → ((j : ℕ) → ready_count front ≡ j → IsReadyAt j xs ys x) → ready_count (with_any one front) ≡ k → IsReadyAt k (with_any one xs) (with_any one ys) x
-ready_any None xs ys front k x later before = later k before
-ready_any (Some y) xs ys front k x later before = ready_step y xs ys (ready_count front) k x (is_ready y) refl later before
-
-ready_here : (one : Option Unfinished) (xs : Queue) (x : Unfinished) → one ≡ Some x → is_ready x ≡ true → IsReadyAt 0 (with_any one xs) xs x
-ready_here one xs x is here = subst (λ (o : Option Unfinished). IsReadyAt 0 (with_any o xs) xs x) (sym {A = Option Unfinished} is) (record { job = rw here refl; others = rw here refl })
-
-pub ready_at : (slots : List Slot) (p k : ℕ) (x : Unfinished) → job_at slots p ≡ Some x → is_ready x ≡ true → ready_count (somes (take p slots)) ≡ k → IsReadyAt k (somes slots) (somes (put_at p None slots)) x
-ready_at [] p k x is here before = let clash : None ≡ Some x = is in cc
-ready_at (s ∷ ss) zero zero x is here before = ready_here s.one (somes ss) x is here
-ready_at (s ∷ ss) zero (suc k) x is here before = absurd (omega arith)
-ready_at (s ∷ ss) (suc p) k x is here before =
-    ready_any s.one (somes ss) (somes (put_at p None ss)) (somes (take p ss)) k x (λ j passed. ready_at ss p j x is here passed) before
-
--- there is none where fewer are ready
-
-none_step : (k : ℕ) (y : Unfinished) (ys : Queue) (ready : Bool) → is_ready y ≡ ready → ((j : ℕ) → ready_count ys ≤ j → ready_job j ys ≡ None) → one_if ready + ready_count ys ≤ k → ready_job k (y ∷ ys) ≡ None
-none_step zero y ys true is later few = absurd (omega arith)
-none_step zero y ys false is later few = rw is (later zero (omega arith))
-none_step (suc k) y ys true is later few = rw is (later k (omega arith))
-none_step (suc k) y ys false is later few = rw is (later (suc k) (omega arith))
-
-pub ready_none : (k : ℕ) (xs : Queue) → ready_count xs ≤ k → ready_job k xs ≡ None
-ready_none zero [] few = refl
-ready_none (suc k) [] few = refl
-ready_none k (y ∷ ys) few = none_step k y ys (is_ready y) refl (λ j fewer. ready_none j ys fewer) few
+pub take_whole : (ps : List Part) (i : ℕ) → length ps ≤ i → take i ps ≡ ps
+take_whole [] zero past = refl
+take_whole [] (suc i) past = refl
+take_whole (p ∷ ps) zero past = absurd (omega arith)
+take_whole (p ∷ ps) (suc i) past = ap (λ (qs : List Part). p ∷ qs) (take_whole ps i (omega arith))

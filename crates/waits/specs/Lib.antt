@@ -1,7 +1,12 @@
 pub mod Limits
 pub mod Jobs
 pub mod Held
-pub mod Wanted
-pub mod Tallies
 pub mod Answers
-pub mod Slots
+pub mod Numbers
+pub mod Stamps
+pub mod Totals
+pub mod Wanted
+pub mod Parts
+pub mod Owned
+pub mod Kept
+pub mod Stands

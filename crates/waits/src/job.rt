@@ -2,7 +2,7 @@
 
 ghost use Rattle.std.specs.Prelude.{◌≡◌, IfOk};
 ghost use Rattle.waits.specs.Jobs.{is_of, is_ready, is_waiting, is_overdue, load_of, waits_for, after_answer};
-ghost use Rattle.waits.specs.Tallies.{are_above, greatest_of};
+ghost use Rattle.waits.specs.Numbers.{are_above, greatest_of};
 
 use crate::jobs::WAIT_SECONDS;
 use bytes::Bytes;

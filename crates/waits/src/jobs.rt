@@ -4,13 +4,14 @@ ghost use Rattle.std.specs.Prelude.{◌≡◌, ◌+◌, ◌<◌, ◌≤◌, [], 
 ghost use Rattle.std.specs.Option.{option_copied};
 ghost use Rattle.std.specs.List.{list_any};
 ghost use Rattle.waits.specs.Limits.{most_jobs, most_job_bytes};
-ghost use Rattle.waits.specs.Jobs.{accepted, is_call, is_overdue, has_failed, ready_count, ready_job, without_ready, first_job, without_first, settled, without_session, job_count, job_bytes, waiting_count, blocked_count_of, overdue_count, overdue_count_of, load_of};
-ghost use Rattle.waits.specs.Wanted.{is_wanted};
+ghost use Rattle.waits.specs.Jobs.{accepted, is_call, is_overdue, is_ready, has_failed, ready_count, ready_job, without_ready, first_job, without_first, settled, without_session, job_count, job_bytes, waiting_count, blocked_count_of, overdue_count, overdue_count_of, load_of};
+ghost use Rattle.waits.specs.Stamps.{count_before, tally, AreStamped};
 
 use crate::job::{Job, Unfinished};
-use crate::line::Line;
-use crate::queue::{self, Wanted};
-use crate::tally::{self, Tally};
+use crate::owners::Owners;
+use crate::stamped::Stamped;
+use crate::telling::Answer;
+use crate::wanted::Wanted;
 use msg_ids::Moment;
 use octets::Memory;
 use std::alloc::Global;
@@ -25,34 +26,30 @@ pub const JOB_BYTES_MAX: usize = 4_194_304;
 /// How many seconds a job waits for others before it is answered instead.
 pub const WAIT_SECONDS: u64 = 30;
 
-/// So many empty places at least are let be, since places are made anew with memory.
-const EMPTY_MIN: usize = 64;
-
 /// The unfinished jobs of a server, in order of acceptance over all sessions.
 ///
-/// Each stands in a place of its own, and each place names an earlier one of the same session. A count of each session's
-/// jobs is kept beside them, with its last place. So what a session asks, or is told, looks at no job of another one,
-/// and a search for a ready, a failed or an overdue job begins behind those that were passed.
+/// Each session has its own jobs, in order, and each job has a stamp, by which those of all sessions are in order. So what
+/// a session asks, or is told, looks at no job of another one, and a search over all looks in each session at the first
+/// jobs alone. A job stands in a node that was made before, and the node of one that is taken out is kept for the next.
 #[derive(Debug, Drop)]
 pub struct Jobs {
-    line: Line,
-    // What each session with jobs has among them.
-    tallies: Vec<Tally>,
+    owners: Owners,
+    // The stamp of the next job, above those of all others.
+    stamp: u64,
     room: usize,
 }
 
 impl Model for Jobs {
-    ghost use Rattle.std.specs.Prelude.{◌+◌, ◌≤◌, vec_len, vec_capacity};
     ghost use Rattle.waits.specs.Held.{Held};
-    ghost use Rattle.waits.specs.Slots.{somes, Stands};
 
     ghost Value = { Held };
 
-    ghost view = { λ jobs. record { jobs = somes jobs.line.slots.items; room = jobs.room } };
+    ghost use Rattle.waits.specs.Stamps.{queue_of};
+    ghost use Rattle.waits.specs.Stands.{Stands};
 
-    ghost invariant = { λ jobs. Stands jobs.line jobs.tallies.items
-        × (vec_len jobs.line.slots + jobs.room ≤ vec_capacity jobs.line.slots)
-        × (vec_len jobs.tallies + jobs.room ≤ vec_capacity jobs.tallies) };
+    ghost view = { λ jobs. record { jobs = queue_of jobs.owners.jobs; room = jobs.room } };
+
+    ghost invariant = { λ jobs. Stands jobs };
 }
 
 impl Jobs {
@@ -61,8 +58,8 @@ impl Jobs {
         ensures { result ≡ record { jobs = []; room = 0 } }
     {
         Jobs {
-            line: Line::new(alloc),
-            tallies: Vec::new(alloc),
+            owners: Owners::new(alloc),
+            stamp: 0,
             room: 0,
         }
     }
@@ -77,12 +74,10 @@ impl Jobs {
         ensures unchanged_on_memory { OnErr result (self.new ≡ self.old) }
     {
         let room = self.room.max(count);
-        if self.line.count.max(EMPTY_MIN) < self.line.slots.len() - self.line.count {
-            *self = self.rebuilt(alloc, room)?;
-            return Ok(());
+        if u64::MAX - (room as u64) < self.stamp {
+            return Err(Memory);
         }
-        self.line.slots.reserve(room)?;
-        self.tallies.reserve(room)?;
+        self.owners.reserve(alloc, room)?;
         self.room = room;
         Ok(())
     }
@@ -96,19 +91,19 @@ impl Jobs {
         ensures added { self.new.jobs ≡ accepted job self.old.jobs }
         ensures room { self.new.room + 1 ≡ self.old.room }
     {
+        let one = Unfinished { job, failed: false };
+        let stamp = self.stamp;
+        self.owners.put(Stamped { stamp, one });
+        self.stamp += 1;
         self.room -= 1;
-        queue::put(
-            &mut self.line,
-            &mut self.tallies,
-            Unfinished { job, failed: false },
-        );
     }
 
     /// How many jobs are ready: they wait for no call, and none that they waited for was answered otherwise than well.
     pub fn ready(&self) -> usize
         ensures count { result ≡ ready_count self.now.jobs }
     {
-        self.line.count - self.line.blocked
+        let totals = self.owners.totals();
+        totals.count - totals.blocked
     }
 
     /// The ready job of this place among the ready ones, from 0 in order of acceptance: the one that `take` takes out;
@@ -121,8 +116,8 @@ impl Jobs {
         if k >= self.ready() {
             return None;
         }
-        let found = queue::ready_place(&self.line.slots, self.line.passed, k);
-        self.line.job(found)
+        let least = least_stamp(&self.owners, self.stamp, k);
+        self.owners.first(&Wanted::Ready(least), self.stamp)
     }
 
     /// Takes out the ready job of this place among the ready ones, from 0 in order of acceptance. The place has to be
@@ -132,12 +127,10 @@ impl Jobs {
         ensures job { ready_job k self.old.jobs ≡ Some result }
         ensures others { self.new ≡ record self.old { jobs = without_ready k self.old.jobs } }
     {
-        let place = queue::ready_place(&self.line.slots, self.line.passed, k);
-        let one = queue::take_out(&mut self.line, &mut self.tallies, place);
-        if k == 0 {
-            self.line.passed = place;
-        }
-        let Unfinished { job, failed: _ } = one;
+        let from = least_stamp(&self.owners, self.stamp, k);
+        let Some(job) = self.owners.take_first(&Wanted::Ready(from), self.stamp) else {
+            unreachable!()
+        };
         job
     }
 
@@ -147,14 +140,12 @@ impl Jobs {
     pub fn settle(&mut self, key: u64, session: u64, number: u64, ok: bool)
         ensures { self.new ≡ record self.old { jobs = settled key session number ok self.old.jobs } }
     {
-        let counted = tally::find(&self.tallies, key, session);
-        if counted.waiting == 0 {
-            return;
-        }
-        if counted.greatest < number {
-            return;
-        }
-        queue::settle(&mut self.line, &mut self.tallies, key, session, number, ok);
+        self.owners.settle(Answer {
+            key,
+            session,
+            number,
+            ok,
+        });
     }
 
     /// Takes out the first job that has failed; `None` where none has. Takes no memory.
@@ -162,10 +153,7 @@ impl Jobs {
         ensures job { result ≡ first_job has_failed self.old.jobs }
         ensures others { self.new ≡ record self.old { jobs = without_first has_failed self.old.jobs } }
     {
-        if self.line.failing == 0 {
-            return None;
-        }
-        self.take_wanted(&Wanted::Failed)
+        self.owners.take_first(&Wanted::Failed, self.stamp)
     }
 
     /// Takes out the first job that waits for a call and was accepted `WAIT_SECONDS` or more before `now`, whether it
@@ -174,10 +162,7 @@ impl Jobs {
         ensures job { result ≡ first_job (is_overdue now) self.old.jobs }
         ensures others { self.new ≡ record self.old { jobs = without_first (is_overdue now) self.old.jobs } }
     {
-        if self.line.blocked == 0 {
-            return None;
-        }
-        self.take_wanted(&Wanted::Overdue(now))
+        self.owners.take_first(&Wanted::Overdue(now), self.stamp)
     }
 
     /// Takes out the first job of this number in this session; `None` where there is none. Takes no memory.
@@ -185,24 +170,14 @@ impl Jobs {
         ensures job { result ≡ first_job (is_call key session number) self.old.jobs }
         ensures others { self.new ≡ record self.old { jobs = without_first (is_call key session number) self.old.jobs } }
     {
-        let last = tally::find(&self.tallies, key, session).last;
-        let place = self.line.first_call(key, session, number, last);
-        if place == self.line.slots.len() {
-            return None;
-        }
-        let Unfinished { job, failed: _ } = queue::take_out(
-            &mut self.line,
-            &mut self.tallies,
-            place,
-        );
-        Some(job)
+        self.owners.take_call(key, session, number, self.stamp)
     }
 
     /// Forgets all jobs of a session. Takes no memory.
     pub fn forget(&mut self, key: u64, session: u64)
         ensures { self.new ≡ record self.old { jobs = without_session key session self.old.jobs } }
     {
-        queue::forget(&mut self.line, &mut self.tallies, key, session);
+        self.owners.forget(key, session);
     }
 
     /// How many jobs a session has, and the bytes of their loads: of each the length of its request, and 8 bytes for
@@ -213,8 +188,7 @@ impl Jobs {
         ensures jobs_within { result.0 ≤ most_jobs }
         ensures bytes_within { result.1 ≤ most_job_bytes }
     {
-        let counted = tally::find(&self.tallies, key, session);
-        (counted.count, counted.bytes)
+        self.owners.load(key, session)
     }
 
     /// How many jobs of a session wait for a call.
@@ -222,7 +196,7 @@ impl Jobs {
         ensures count { result ≡ waiting_count key session self.now.jobs }
         ensures within { result ≤ most_jobs }
     {
-        tally::find(&self.tallies, key, session).waiting
+        self.owners.totals_of(key, session).waiting
     }
 
     /// How many jobs of a session aren't ready: each waits for a call, or has failed.
@@ -230,44 +204,37 @@ impl Jobs {
         ensures count { result ≡ blocked_count_of key session self.now.jobs }
         ensures within { result ≤ most_jobs }
     {
-        tally::find(&self.tallies, key, session).blocked
+        self.owners.totals_of(key, session).blocked
     }
 
-    /// How many jobs wait for a call and were accepted `WAIT_SECONDS` or more before `now`. Looks at no job where all
-    /// are ready.
+    /// How many jobs wait for a call and were accepted `WAIT_SECONDS` or more before `now`. Looks at no job where none
+    /// waits.
     pub fn overdue(&self, now: Moment) -> usize
         ensures count { result ≡ overdue_count now self.now.jobs }
     {
-        if self.line.blocked == 0 {
-            return 0;
-        }
-        queue::count_of(&self.line.slots, &Wanted::Overdue(now))
+        self.owners.count(&Wanted::Overdue(now), self.stamp)
     }
 
     /// How many of these a session has. Looks at no job where none of the session waits, and at none of another session.
     pub fn overdue_of(&self, key: u64, session: u64, now: Moment) -> usize
         ensures count { result ≡ overdue_count_of key session now self.now.jobs }
     {
-        let counted = tally::find(&self.tallies, key, session);
-        if counted.waiting == 0 {
-            return 0;
-        }
-        self.line.overdue_of(key, session, now, counted.last)
+        self.owners
+            .count_of(key, session, &Wanted::Overdue(now), self.stamp)
     }
 
     /// Whether an unfinished job has this number in this session.
     pub fn has(&self, key: u64, session: u64, number: u64) -> bool
         ensures { result ≡ list_any (is_call key session number) self.now.jobs }
     {
-        let last = tally::find(&self.tallies, key, session).last;
-        self.line.has_call(key, session, number, last)
+        self.owners.has(key, session, number)
     }
 
     /// How many unfinished jobs there are.
     pub fn len(&self) -> usize
         ensures { result ≡ length self.now.jobs }
     {
-        self.line.count
+        self.owners.totals().count
     }
 
     /// The same jobs, and the same room reserved.
@@ -278,38 +245,38 @@ impl Jobs {
     pub fn copy(&self, alloc: Global) -> Result<Jobs, Memory>
         ensures { IfOk result (λ jobs. jobs ≡ self.now) }
     {
-        self.rebuilt(alloc, self.room)
-    }
-
-    /// The same jobs in places of which none is empty, with so much room.
-    fn rebuilt(&self, alloc: Global, room: usize) -> Result<Jobs, Memory>
-        ensures { IfOk result (λ jobs. jobs ≡ record self.now { room = room }) }
-    {
-        let Some(capacity) = self.line.count.checked_add(room) else {
-            return Err(Memory);
-        };
-        let (line, tallies) = queue::copy_of(alloc, &self.line, capacity)?;
         Ok(Jobs {
-            line,
-            tallies,
-            room,
+            owners: self.owners.copy(alloc, self.room)?,
+            stamp: self.stamp,
+            room: self.room,
         })
     }
+}
 
-    /// Takes out the first job that is wanted; `None` where none is.
-    fn take_wanted(&mut self, wanted: &Wanted) -> Option<Job>
-        ensures job { result ≡ first_job (is_wanted wanted.now) self.old.jobs }
-        ensures others { self.new ≡ record self.old { jobs = without_first (is_wanted wanted.now) self.old.jobs } }
-    {
-        let place = queue::first_wanted(&mut self.line, wanted);
-        if place == self.line.slots.len() {
-            return None;
-        }
-        let Unfinished { job, failed: _ } = queue::take_out(
-            &mut self.line,
-            &mut self.tallies,
-            place,
-        );
-        Some(job)
+/// How many jobs with a stamp below this one are ready.
+fn ready_before(owners: &Owners, stamp: u64) -> usize
+    ensures { result ≡ count_before (λ x. is_ready x.one) stamp owners.now.jobs }
+{
+    owners.count(&Wanted::Ready(0), stamp)
+}
+
+/// A stamp below which just so many jobs are ready. More than these are, and all stamps are below the limit.
+fn least_stamp(owners: &Owners, limit: u64, count: usize) -> u64
+    requires enough { count < tally (λ x. is_ready x.one) owners.now.jobs }
+    requires stamped { AreStamped limit owners.now.jobs }
+    ensures { count_before (λ x. is_ready x.one) result owners.now.jobs ≡ count }
+{
+    if count == 0 {
+        return 0;
     }
+    let (mut least, mut above) = (0, limit);
+    while above - least > 1 {
+        let middle = least + (above - least) / 2;
+        if ready_before(owners, middle) <= count {
+            least = middle;
+        } else {
+            above = middle;
+        }
+    }
+    least
 }

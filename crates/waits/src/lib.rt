@@ -8,10 +8,12 @@
 mod job;
 mod jobs;
 pub mod laws;
-mod line;
-mod queue;
-mod slot;
-mod tally;
+mod owner;
+mod owners;
+mod stamped;
+mod telling;
+mod totals;
+mod wanted;
 
 pub use job::Job;
 pub use jobs::{JOB_BYTES_MAX, JOBS_MAX, Jobs, WAIT_SECONDS};

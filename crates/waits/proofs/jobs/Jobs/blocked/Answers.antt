@@ -1,18 +1,17 @@
-use Rattle.std.proofs.Common.{◌≡◌, subst, arith}
-use Rattle.waits.specs.Jobs.{blocked_count_of}
-use Rattle.waits.specs.Held.{Held}
-use Rattle.waits.specs.Slots.{somes}
-use Rattle.waits.proofs.Tallies.{found_at, blocked_le}
+use Rattle.std.proofs.Common.{not, arith}
+use Rattle.waits.specs.Jobs.{is_ready, blocked_count_of}
+use Rattle.waits.specs.Stamps.{queue_of, own}
+use Rattle.waits.proofs.Sums.{tally_le}
+use Rattle.waits.proofs.Asked.{own_tally}
+use Rattle.waits.proofs.View.{viewed}
 use Rattle.waits.proofs.jobs.Jobs.blocked.Goals as goal
 
 pub returns-clause-count : goal.returns-clause-count
 returns-clause-count c =
-    let there = found_at (somes c.self.inside.line.slots.items) c.args.key c.args.session c.self.inside.tallies.items c.find.result c.self.invariant.0.tallied c.find.ensures in
-    subst (λ (held : Held). c.find.result.blocked ≡ blocked_count_of c.args.key c.args.session held.jobs) c.self.view_is there.blocked
+    let xs = c.self.inside.owners.jobs in
+    omega (arith, c.totals_of.ensures.totals.blocked, own_tally (λ one. not (is_ready one)) c.args.key c.args.session xs, viewed (blocked_count_of c.args.key c.args.session) (queue_of xs) c.self.inside.room c.args.self.now c.self.view_is)
 
 pub returns-clause-within : goal.returns-clause-within
 returns-clause-within c =
-    let there = found_at (somes c.self.inside.line.slots.items) c.args.key c.args.session c.self.inside.tallies.items c.find.result c.self.invariant.0.tallied c.find.ensures in
-    let most = c.self.invariant.0.limits c.args.key c.args.session in
-    let fewer = blocked_le c.args.key c.args.session (somes c.self.inside.line.slots.items) in
-    omega (arith, there.blocked)
+    let fewer = tally_le (λ x. not (is_ready x.one)) (own c.args.key c.args.session c.self.inside.owners.jobs) in
+    omega (arith, c.totals_of.ensures.totals.blocked, c.totals_of.ensures.totals.count, c.totals_of.ensures.within)

@@ -1,10 +1,16 @@
-use Rattle.std.proofs.Common.{◌≡◌, ◌∙◌, ℕ, ap}
-use Rattle.std.proofs.lemmas.Result.{IfOk-weaker}
-use Rattle.waits.specs.Held.{Held}
+use Rattle.std.proofs.Common.{◌∙◌, ap, subst, sym}
+use Rattle.waits.specs.Stamps.{AreStamped, queue_of}
+use Rattle.waits.proofs.View.{holding}
+use Rattle.waits.specs.Jobs.{Queue}
 use Rattle.waits.proofs.jobs.Jobs.copy.Goals as goal
 
+pub invariant_of-result : goal.invariant_of-result
+invariant_of-result c =
+    record {
+      stamped = subst (AreStamped c.self.inside.stamp) (sym c.in_ok-copy.ensures.jobs) c.self.invariant.stamped;
+      stamps = c.self.invariant.stamps;
+      room = c.in_ok-copy.ensures.room;
+    }
+
 pub returns : goal.returns
-returns c =
-    let holding : ℕ → Held = λ room. record { jobs = c.args.self.now.jobs; room = room } in
-    let same : holding c.self.inside.room ≡ c.args.self.now = ap holding (ap (λ (held : Held). held.room) c.self.view_is) in
-    IfOk-weaker c.rebuilt.result _ _ (λ jobs e. e ∙ same) c.rebuilt.ensures
+returns c = ap (λ (queue : Queue). holding queue c.self.inside.room) (ap queue_of c.in_ok-copy.ensures.jobs) ∙ c.self.view_is

@@ -1,25 +1,24 @@
-use Rattle.std.proofs.Common.{◌≡◌, ◌+◌, nat_le, None, ap, sym, subst, arith}
-use Rattle.waits.specs.declared.job.Unfinished.{Unfinished}
-use Rattle.waits.specs.Limits.{wait_seconds}
-use Rattle.waits.specs.Jobs.{Queue, is_overdue, blocked_count, first_job, without_first}
-use Rattle.waits.specs.Held.{Held}
-use Rattle.waits.specs.Slots.{somes}
-use Rattle.waits.proofs.Searches.{waits_none}
+use Rattle.std.proofs.Common.{◌∙◌, sym, arith}
+use Rattle.waits.specs.Jobs.{is_overdue, first_job, without_first}
+use Rattle.waits.specs.Stamps.{queue_of}
+use Rattle.waits.proofs.Taken.{first_or_none}
+use Rattle.waits.proofs.View.{changed, viewed}
 use Rattle.waits.proofs.jobs.Jobs.expired.Goals as goal
 
--- all are ready
-pub returns-then-self-eq0-clause-job : goal.returns-then-self-eq0-clause-job
-returns-then-self-eq0-clause-job c =
-    let xs = somes c.self.inside.line.slots.items in
-    let none : blocked_count xs ≡ 0 = omega (arith, c.self.invariant.0.counted.blocked, c.if-self-eq0.true) in
-    let nothing = waits_none (λ (one : Unfinished). nat_le (one.job.since + wait_seconds) c.args.now) xs none in
-    sym (subst (λ (held : Held). first_job (is_overdue c.args.now) held.jobs ≡ None) c.self.view_is nothing.job)
+pub invariant_of-self : goal.invariant_of-self
+invariant_of-self c =
+    let e = c.take_first.ensures in
+    let taken = first_or_none c.self.inside.stamp (is_overdue c.args.now) c.self.inside.owners c.take_first.new.self c.take_first.result e.found e.none e.unchanged c.self.invariant.stamped in
+    record { stamped = taken.stamped; stamps = c.self.invariant.stamps; room = omega (arith, c.self.invariant.room, e.room) }
 
-pub returns-then-self-eq0-clause-others : goal.returns-then-self-eq0-clause-others
-returns-then-self-eq0-clause-others c =
-    let xs = somes c.self.inside.line.slots.items in
-    let none : blocked_count xs ≡ 0 = omega (arith, c.self.invariant.0.counted.blocked, c.if-self-eq0.true) in
-    let nothing = waits_none (λ (one : Unfinished). nat_le (one.job.since + wait_seconds) c.args.now) xs none in
-    let holding : Queue → Held = λ queue. record { jobs = queue; room = c.self.inside.room } in
-    let same = ap holding (sym nothing.others) in
-    subst (λ (held : Held). held ≡ record { jobs = without_first (is_overdue c.args.now) held.jobs; room = held.room }) c.self.view_is same
+pub returns-clause-job : goal.returns-clause-job
+returns-clause-job c =
+    let e = c.take_first.ensures in
+    let taken = first_or_none c.self.inside.stamp (is_overdue c.args.now) c.self.inside.owners c.take_first.new.self c.take_first.result e.found e.none e.unchanged c.self.invariant.stamped in
+    taken.job ∙ sym (viewed (first_job (is_overdue c.args.now)) (queue_of c.self.inside.owners.jobs) c.self.inside.room c.args.self.now c.self.view_is)
+
+pub returns-clause-others : goal.returns-clause-others
+returns-clause-others c =
+    let e = c.take_first.ensures in
+    let taken = first_or_none c.self.inside.stamp (is_overdue c.args.now) c.self.inside.owners c.take_first.new.self c.take_first.result e.found e.none e.unchanged c.self.invariant.stamped in
+    changed (without_first (is_overdue c.args.now)) (queue_of c.self.inside.owners.jobs) (queue_of c.take_first.new.self.jobs) c.self.inside.room c.args.self.now c.self.view_is taken.others

@@ -1,28 +1,16 @@
-use Rattle.std.proofs.Common.{◌≡◌, subst, arith}
-use Rattle.waits.specs.Jobs.{job_count, job_bytes}
-use Rattle.waits.specs.Held.{Held}
-use Rattle.waits.specs.Slots.{somes}
-use Rattle.waits.proofs.Tallies.{found_at}
+use Rattle.std.proofs.Common.{arith}
+use Rattle.waits.specs.Jobs.{job_count, job_bytes, load_of}
+use Rattle.waits.specs.Stamps.{queue_of}
+use Rattle.waits.proofs.Asked.{own_length, own_sum}
+use Rattle.waits.proofs.View.{viewed}
 use Rattle.waits.proofs.jobs.Jobs.load.Goals as goal
 
 pub returns-clause-count : goal.returns-clause-count
 returns-clause-count c =
-    let there = found_at (somes c.self.inside.line.slots.items) c.args.key c.args.session c.self.inside.tallies.items c.find-counted.result c.self.invariant.0.tallied c.find-counted.ensures in
-    subst (λ (held : Held). c.find-counted.result.count ≡ job_count c.args.key c.args.session held.jobs) c.self.view_is there.count
+    let xs = c.self.inside.owners.jobs in
+    omega (arith, c.load.ensures.count, own_length c.args.key c.args.session xs, viewed (job_count c.args.key c.args.session) (queue_of xs) c.self.inside.room c.args.self.now c.self.view_is)
 
 pub returns-clause-bytes : goal.returns-clause-bytes
 returns-clause-bytes c =
-    let there = found_at (somes c.self.inside.line.slots.items) c.args.key c.args.session c.self.inside.tallies.items c.find-counted.result c.self.invariant.0.tallied c.find-counted.ensures in
-    subst (λ (held : Held). c.find-counted.result.bytes ≡ job_bytes c.args.key c.args.session held.jobs) c.self.view_is there.bytes
-
-pub returns-clause-jobs_within : goal.returns-clause-jobs_within
-returns-clause-jobs_within c =
-    let there = found_at (somes c.self.inside.line.slots.items) c.args.key c.args.session c.self.inside.tallies.items c.find-counted.result c.self.invariant.0.tallied c.find-counted.ensures in
-    let most = c.self.invariant.0.limits c.args.key c.args.session in
-    omega (arith, there.count)
-
-pub returns-clause-bytes_within : goal.returns-clause-bytes_within
-returns-clause-bytes_within c =
-    let there = found_at (somes c.self.inside.line.slots.items) c.args.key c.args.session c.self.inside.tallies.items c.find-counted.result c.self.invariant.0.tallied c.find-counted.ensures in
-    let most = c.self.invariant.0.limits c.args.key c.args.session in
-    omega (arith, there.bytes)
+    let xs = c.self.inside.owners.jobs in
+    omega (arith, c.load.ensures.bytes, own_sum (λ one. load_of one.job) c.args.key c.args.session xs, viewed (job_bytes c.args.key c.args.session) (queue_of xs) c.self.inside.room c.args.self.now c.self.view_is)

@@ -1,14 +1,12 @@
-use Rattle.std.proofs.Common.{◌≡◌, subst, arith}
-use Rattle.waits.specs.Jobs.{overdue_count}
-use Rattle.waits.specs.Held.{Held}
-use Rattle.waits.specs.Slots.{somes}
-use Rattle.waits.proofs.Counts.{overdue_le}
+use Rattle.std.proofs.Common.{arith}
+use Rattle.waits.specs.Jobs.{is_overdue, overdue_count, one_if}
+use Rattle.waits.specs.Stamps.{queue_of}
+use Rattle.waits.proofs.Order.{total_queue}
+use Rattle.waits.proofs.Asked.{all_before}
+use Rattle.waits.proofs.View.{viewed}
 use Rattle.waits.proofs.jobs.Jobs.overdue.Goals as goal
 
--- all are ready
-pub returns-then-self-eq0 : goal.returns-then-self-eq0
-returns-then-self-eq0 c =
-    let xs = somes c.self.inside.line.slots.items in
-    let fewer = overdue_le c.args.now xs in
-    let none : 0 ≡ overdue_count c.args.now xs = omega (arith, c.self.invariant.0.counted.blocked, c.if-self-eq0.true) in
-    record { count = subst (λ (held : Held). 0 ≡ overdue_count c.args.now held.jobs) c.self.view_is none }
+pub returns : goal.returns
+returns c =
+    let xs = c.self.inside.owners.jobs in
+    record { count = omega (arith, c.count.ensures, all_before (λ x. is_overdue c.args.now x.one) c.self.inside.stamp xs c.self.invariant.stamped.below, total_queue (λ one. one_if (is_overdue c.args.now one)) xs, viewed (overdue_count c.args.now) (queue_of xs) c.self.inside.room c.args.self.now c.self.view_is) }

@@ -1,17 +1,20 @@
-use Rattle.std.proofs.Common.{◌≡◌, ◌-◌, ap, subst, arith}
-use Rattle.waits.specs.Jobs.{Queue, ready_count}
-use Rattle.waits.specs.Held.{Held}
-use Rattle.waits.specs.Slots.{somes}
-use Rattle.waits.proofs.Counts.{counts_all}
+use Rattle.std.proofs.Common.{arith}
+use Rattle.waits.specs.Jobs.{is_ready, ready_count, one_if}
+use Rattle.waits.specs.Stamps.{queue_of}
+use Rattle.waits.proofs.Order.{total_queue}
+use Rattle.waits.proofs.Asked.{ready_or_not}
+use Rattle.waits.proofs.View.{viewed}
 use Rattle.waits.proofs.jobs.Jobs.ready.Goals as goal
 
 pub overflow_sub-result : goal.overflow_sub-result
 overflow_sub-result c =
-    let all = counts_all (somes c.self.inside.line.slots.items) in
-    omega (arith, c.self.invariant.0.counted.count, c.self.invariant.0.counted.blocked)
+    let all = ready_or_not c.self.inside.owners.jobs in
+    omega (arith, c.totals-totals.ensures.count, c.totals-totals.ensures.blocked)
 
 pub returns : goal.returns
 returns c =
-    let all = counts_all (somes c.self.inside.line.slots.items) in
-    let counted : c.self.inside.line.count - c.self.inside.line.blocked ≡ ready_count (somes c.self.inside.line.slots.items) = omega (arith, c.self.invariant.0.counted.count, c.self.invariant.0.counted.blocked) in
-    record { count = subst (λ (queue : Queue). c.self.inside.line.count - c.self.inside.line.blocked ≡ ready_count queue) (ap (λ (held : Held). held.jobs) c.self.view_is) counted }
+    let xs = c.self.inside.owners.jobs in
+    let all = ready_or_not xs in
+    let seen = viewed ready_count (queue_of xs) c.self.inside.room c.args.self.now c.self.view_is in
+    let counted = total_queue (λ one. one_if (is_ready one)) xs in
+    record { count = omega (arith, seen, counted, c.totals-totals.ensures.count, c.totals-totals.ensures.blocked) }

@@ -1,25 +1,35 @@
-use Rattle.std.proofs.Common.{◌≡◌, ◌∙◌, Option, Some, ap, sym, subst, arith}
-use Rattle.waits.specs.declared.job.Unfinished.{Unfinished}
-use Rattle.waits.specs.Jobs.{is_ready, ready_job, ready_count}
-use Rattle.waits.specs.Held.{Held}
-use Rattle.waits.specs.Slots.{job_at, changed}
-use Rattle.waits.proofs.Places.{ready_at, ready_none, there}
+use Rattle.std.proofs.Common.{◌∙◌, ◌<◌, ◌≤◌, ◌&&◌, nat_le, sym, arith}
+use Rattle.waits.specs.Jobs.{is_ready, one_if, ready_count, ready_job}
+use Rattle.waits.specs.Stamps.{queue_of, tally, count_before}
+use Rattle.waits.proofs.Order.{total_queue}
+use Rattle.waits.proofs.Taken.{ready_none, ready_found, some_shown, none_shown, some_from}
+use Rattle.waits.proofs.View.{viewed}
 use Rattle.waits.proofs.jobs.Jobs.ready_at.Goals as goal
 
 pub returns-then-k-ready-clause-job : goal.returns-then-k-ready-clause-job
 returns-then-k-ready-clause-job c = sym (ready_none c.args.k c.args.self.now.jobs (omega (arith, c.ready.ensures.count, c.if-k-ready.true)))
 
-pub ready_place-found-requires : goal.ready_place-found-requires
-ready_place-found-requires c =
+pub least_stamp-least-requires : goal.least_stamp-least-requires
+least_stamp-least-requires c =
+    let xs = c.self.inside.owners.jobs in
     record {
-      ready = omega (arith, c.ready.ensures.count, c.if-k-ready.false, ap (λ (held : Held). ready_count held.jobs) c.self.view_is);
-      passed = c.self.invariant.0.counted.passed;
+      enough = omega (arith, c.ready.ensures.count, c.if-k-ready.false, total_queue (λ one. one_if (is_ready one)) xs, viewed ready_count (queue_of xs) c.self.inside.room c.args.self.now c.self.view_is);
+      stamped = c.self.invariant.stamped;
     }
 
 pub returns-clause-job : goal.returns-clause-job
 returns-clause-job c =
-    let xs = c.self.inside.line.slots.items in
-    let at = there is_ready (job_at xs c.ready_place-found.result) c.ready_place-found.ensures.ready in
-    let found = ready_at xs c.ready_place-found.result c.args.k at.job at.is at.so c.ready_place-found.ensures.before in
-    let told = c.job.ensures ∙ ap (λ (o : Option Unfinished). changed (λ (one : Unfinished). one.job) o) at.is in
-    told ∙ sym (subst (λ (held : Held). ready_job c.args.k held.jobs ≡ Some at.job.job) c.self.view_is found.job)
+    let xs = c.self.inside.owners.jobs in
+    let more : c.args.k < tally (λ x. is_ready x.one) xs = omega (arith, c.ready.ensures.count, c.if-k-ready.false, total_queue (λ one. one_if (is_ready one)) xs, viewed ready_count (queue_of xs) c.self.inside.room c.args.self.now c.self.view_is) in
+    ready_found c.self.inside.stamp c.args.k c.least_stamp-least.result xs c.first.result c.self.invariant.stamped c.least_stamp-least.ensures more c.first.ensures.found c.first.ensures.none
+    ∙ sym (viewed (ready_job c.args.k) (queue_of xs) c.self.inside.room c.args.self.now c.self.view_is)
+
+pub returns-clause-there : goal.returns-clause-there
+returns-clause-there c = some_shown c.first.result (omega (arith, c.ready.ensures.count, c.if-k-ready.false))
+
+pub returns-clause-none : goal.returns-clause-none
+returns-clause-none c =
+    let xs = c.self.inside.owners.jobs in
+    let more : c.args.k < tally (λ x. is_ready x.one) xs = omega (arith, c.ready.ensures.count, c.if-k-ready.false, total_queue (λ one. one_if (is_ready one)) xs, viewed ready_count (queue_of xs) c.self.inside.room c.args.self.now c.self.view_is) in
+    none_shown (ready_count c.args.self.now.jobs ≤ c.args.k) c.first.result (count_before (λ y. nat_le c.least_stamp-least.result y.stamp && is_ready y.one) c.self.inside.stamp xs) c.first.ensures.none
+    (some_from c.self.inside.stamp c.least_stamp-least.result c.args.k xs c.self.invariant.stamped c.least_stamp-least.ensures more)

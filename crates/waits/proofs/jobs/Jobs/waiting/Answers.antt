@@ -1,18 +1,17 @@
-use Rattle.std.proofs.Common.{◌≡◌, subst, arith}
-use Rattle.waits.specs.Jobs.{waiting_count}
-use Rattle.waits.specs.Held.{Held}
-use Rattle.waits.specs.Slots.{somes}
-use Rattle.waits.proofs.Tallies.{found_at, waiting_le}
+use Rattle.std.proofs.Common.{arith}
+use Rattle.waits.specs.Jobs.{is_waiting, waiting_count}
+use Rattle.waits.specs.Stamps.{queue_of, own}
+use Rattle.waits.proofs.Sums.{tally_le}
+use Rattle.waits.proofs.Asked.{own_tally}
+use Rattle.waits.proofs.View.{viewed}
 use Rattle.waits.proofs.jobs.Jobs.waiting.Goals as goal
 
 pub returns-clause-count : goal.returns-clause-count
 returns-clause-count c =
-    let there = found_at (somes c.self.inside.line.slots.items) c.args.key c.args.session c.self.inside.tallies.items c.find.result c.self.invariant.0.tallied c.find.ensures in
-    subst (λ (held : Held). c.find.result.waiting ≡ waiting_count c.args.key c.args.session held.jobs) c.self.view_is there.waiting
+    let xs = c.self.inside.owners.jobs in
+    omega (arith, c.totals_of.ensures.totals.waiting, own_tally is_waiting c.args.key c.args.session xs, viewed (waiting_count c.args.key c.args.session) (queue_of xs) c.self.inside.room c.args.self.now c.self.view_is)
 
 pub returns-clause-within : goal.returns-clause-within
 returns-clause-within c =
-    let there = found_at (somes c.self.inside.line.slots.items) c.args.key c.args.session c.self.inside.tallies.items c.find.result c.self.invariant.0.tallied c.find.ensures in
-    let most = c.self.invariant.0.limits c.args.key c.args.session in
-    let fewer = waiting_le c.args.key c.args.session (somes c.self.inside.line.slots.items) in
-    omega (arith, there.waiting)
+    let fewer = tally_le (λ x. is_waiting x.one) (own c.args.key c.args.session c.self.inside.owners.jobs) in
+    omega (arith, c.totals_of.ensures.totals.waiting, c.totals_of.ensures.totals.count, c.totals_of.ensures.within)
