@@ -31,16 +31,16 @@ fn accept(jobs: &mut Jobs, alloc: Global, job: Job) -> Result<bool, Memory>
     Ok(true)
 }
 
-// Takes out the first ready job.
-fn next(jobs: &mut Jobs) -> Option<Job>
-    ensures taken { IfSome result (λ job. ready_job 0 jobs.old.jobs ≡ Some job) }
-    ensures others { IfSome result (λ _. jobs.new.jobs ≡ without_ready 0 jobs.old.jobs) }
+// Takes out the ready job of a place among the ready ones.
+fn take(jobs: &mut Jobs, k: usize) -> Option<Job>
+    ensures taken { IfSome result (λ job. ready_job k jobs.old.jobs ≡ Some job) }
+    ensures others { IfSome result (λ _. jobs.new.jobs ≡ without_ready k jobs.old.jobs) }
     ensures unchanged { IfNone result (jobs.new ≡ jobs.old) }
 {
-    if jobs.ready() == 0 {
+    if k >= jobs.ready() {
         return None;
     }
-    Some(jobs.take(0))
+    Some(jobs.take(k))
 }
 
 // Accepts a call of a session of key 1 at the moment 100, with a request of 4 bytes.
@@ -143,7 +143,7 @@ fn calls_of_three(jobs: &mut Jobs, alloc: Global, rounds: u64) -> Result<String,
 // So many jobs are taken out.
 fn takes(jobs: &mut Jobs, alloc: Global, count: u64) -> Result<String, Fail> {
     for _ in 0..count {
-        drop(next(jobs));
+        drop(take(jobs, 0));
     }
     nothing(alloc)
 }
@@ -183,7 +183,8 @@ fn does(jobs: &mut Jobs, alloc: Global, step: Step<'_>) -> Result<String, Fail> 
 fn taken(jobs: &mut Jobs, step: Step<'_>) -> (u64, bool) {
     let [first, second, ..] = step.numbers;
     match step.verb {
-        "next" => (number_of(next(jobs)), true),
+        "next" => (number_of(take(jobs, 0)), true),
+        "take" => (number_of(take(jobs, first as usize)), true),
         "failed" => (number_of(jobs.failed()), true),
         "expired" => (number_of(jobs.expired(Moment::new(first))), true),
         "cancel" => (number_of(jobs.cancel(1, first, second)), true),
@@ -352,8 +353,8 @@ fn sessions_have_jobs_of_their_own(rt: HostRuntime) -> Result<(), Fail> {
     are_played::<Both>(rt.alloc(), OF_TWO_SESSIONS)
 }
 
-// A session has its own jobs where those of three stand between one another, some are taken out, one session is
-// forgotten and heard again, and places that were left empty are tidied away.
+// A session has its own jobs where those of three stand between one another, some are taken out, and one session is
+// forgotten and heard again.
 const OF_THREE_SESSIONS: &str = "\
 calls 40 = 120\n\
 call 2 400 8 = 1\n\
@@ -381,4 +382,29 @@ next = 404\n";
 #[test]
 fn sessions_keep_theirs_among_others(rt: HostRuntime) -> Result<(), Fail> {
     are_played::<Both>(rt.alloc(), OF_THREE_SESSIONS)
+}
+
+// Ready jobs are counted over all sessions, in order of acceptance.
+const BY_PLACE: &str = "\
+call 1 8 = 1\n\
+call 2 12 = 1\n\
+call 3 16 = 1\n\
+call 2 20 8 = 1\n\
+call 1 24 = 1\n\
+ready = 4\n\
+at 2 = 16\n\
+at 3 = 24\n\
+at 4 = 0\n\
+take 2 = 16\n\
+at 2 = 24\n\
+take 2 = 24\n\
+take 2 = 0\n\
+take 1 = 12\n\
+next = 8\n\
+ready = 0\n\
+len = 1\n";
+
+#[test]
+fn a_ready_job_has_its_place_among_all(rt: HostRuntime) -> Result<(), Fail> {
+    are_played::<Both>(rt.alloc(), BY_PLACE)
 }

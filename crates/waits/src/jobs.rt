@@ -29,8 +29,10 @@ pub const WAIT_SECONDS: u64 = 30;
 /// The unfinished jobs of a server, in order of acceptance over all sessions.
 ///
 /// Each session has its own jobs, in order, and each job has a stamp, by which those of all sessions are in order. So what
-/// a session asks, or is told, looks at no job of another one, and a search over all looks in each session at the first
-/// jobs alone. A job stands in a node that was made before, and the node of one that is taken out is kept for the next.
+/// a session asks, or is told, looks at no job of another one. A search over all looks, in each session that may have what
+/// is looked for, at the jobs up to the first such one; that for a later place among the ready ones counts those in front
+/// anew at each halving of the stamps. A job stands in a node that was made before, and the node of one that is taken out
+/// is kept for the next.
 #[derive(Debug, Drop)]
 pub struct Jobs {
     owners: Owners,
@@ -68,7 +70,7 @@ impl Jobs {
     ///
     /// # Errors
     ///
-    /// `Memory`, and then nothing has changed.
+    /// `Memory`, and then nothing has changed; also where the stamps of jobs, of which there are 2^64 - 1, don't suffice.
     pub fn reserve(&mut self, alloc: Global, count: usize) -> Result<(), Memory>
         ensures reserved { OnOk result (self.new ≡ record self.old { room = max self.old.room count }) }
         ensures unchanged_on_memory { OnErr result (self.new ≡ self.old) }

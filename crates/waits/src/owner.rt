@@ -160,8 +160,8 @@ impl Owner {
         node
     }
 
-    /// Tells the jobs that wait for a call how it was answered. Looks at none behind the first one where no two wait for
-    /// one number.
+    /// Tells the jobs that wait for a call how it was answered. Looks at none behind the first one where it is known that no
+    /// two wait for one number.
     pub(crate) fn settle(&mut self, answer: Answer)
         requires { is_part_of answer.key answer.session self.old ≡ true }
         ensures { self.new ≡ record self.old { jobs = map (after answer.key answer.session answer.number answer.ok) self.old.jobs } }
