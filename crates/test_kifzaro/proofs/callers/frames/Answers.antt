@@ -1,4 +1,0 @@
-use Rattle.test_kifzaro.proofs.callers.frames.Goals as goal
-
-pub put-requires : goal.put-requires
-put-requires c = c.fits.ensures.fits c.if-not-fits.false c.args.wire.now.form
