@@ -76,3 +76,7 @@ waiter_waits key session number xs = tally_less (λ x. waits_for key session num
 -- no more are ready from a stamp on than are
 pub ready_from : (least : ℕ) (xs : List Stamped) → tally (λ x. nat_le least x.stamp && is_ready x.one) xs ≤ tally (λ x. is_ready x.one) xs
 ready_from least xs = tally_less (λ x. nat_le least x.stamp && is_ready x.one) (λ x. is_ready x.one) (λ x both. (and_parts (nat_le least x.stamp) (is_ready x.one) both).1) xs
+
+-- where all stamps are below the least one that is looked for, none is looked for
+pub none_from : (test : Stamped → Bool) (least : ℕ) (xs : List Stamped) → ((x : Stamped) → test x ≡ true → least ≤ x.stamp) → tally (λ x. nat_le least x.stamp) xs ≡ 0 → tally test xs ≡ 0
+none_from test least xs leads none = omega (arith, none, tally_less test (λ x. nat_le least x.stamp) (λ x is. le-leb least x.stamp (leads x is)) xs)

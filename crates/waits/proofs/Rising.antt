@@ -1,6 +1,6 @@
 -- Jobs of a session, whose stamps rise.
-use Rattle.std.proofs.Common.{◌≡◌, ◌∙◌, ℕ, zero, suc, ◌<◌, ◌≤◌, Bool, false, ◌&&◌, nat_le, nat_lt, List, [], ◌∷◌, ◌++◌, length, take, drop, map, get_or, ap, sym, refl, subst, arith}
-use Rattle.std.proofs.lemmas.Bool.{ltb-true, le-ltb, le-leb, and_parts}
+use Rattle.std.proofs.Common.{◌≡◌, ◌∙◌, ℕ, zero, suc, ◌+◌, ◌-◌, ◌<◌, ◌≤◌, Bool, false, ◌&&◌, nat_le, nat_lt, List, [], ◌∷◌, ◌++◌, length, take, drop, map, get_or, ap, sym, refl, subst, arith}
+use Rattle.std.proofs.lemmas.Bool.{ltb-true, leb-false, lt-leb, le-ltb, le-leb, and_parts}
 use Rattle.waits.specs.declared.stamped.Stamped.{Stamped}
 use Rattle.waits.specs.declared.job.Unfinished.{Unfinished}
 use Rattle.waits.specs.Jobs.{one_if}
@@ -76,3 +76,23 @@ none_before test front x back limit below rising none =
     let first = tally_less (λ y. test y && nat_lt y.stamp limit) test (λ y both. (and_parts (test y) (nat_lt y.stamp limit) both).0) front in
     let last = tally_less (λ y. test y && nat_lt y.stamp limit) (λ y. nat_lt y.stamp limit) (λ y both. (and_parts (test y) (nat_lt y.stamp limit) both).1) (x ∷ back) in
     omega arith
+
+last_at : (xs : List Stamped) (x : Stamped) (at stamp : ℕ) → IsRising xs → at + 1 ≡ length xs → x ≡ get_or xs at x → x.stamp < stamp → tally (λ y. nat_le stamp y.stamp) xs ≡ 0
+last_at [] x at stamp rising last is below = refl
+last_at (y ∷ []) x zero stamp rising last is below =
+    let none : nat_le stamp y.stamp ≡ false = lt-leb stamp y.stamp (omega (arith, ap (λ (z : Stamped). z.stamp) is)) in
+    rw none refl
+last_at (y ∷ []) x (suc at) stamp rising last is below = absurd (omega arith)
+last_at (y ∷ z ∷ xs) x zero stamp rising last is below = absurd (omega arith)
+last_at (y ∷ z ∷ xs) x (suc at) stamp rising last is below =
+    let rest = last_at (z ∷ xs) x at stamp rising.1 (omega arith) is below in
+    let next : nat_le stamp z.stamp ≡ false = one_if_true (nat_le stamp z.stamp) (omega arith) in
+    let order : nat_le z.stamp y.stamp ≡ false = one_if_true (nat_le z.stamp y.stamp) (omega (arith, rising.0)) in
+    let none : nat_le stamp y.stamp ≡ false = lt-leb stamp y.stamp (omega (arith, leb-false stamp z.stamp next, leb-false z.stamp y.stamp order)) in
+    let nought : one_if (nat_le stamp y.stamp) ≡ 0 = rw none refl in
+    omega (arith, rest)
+
+-- where the last is below a stamp, all are
+pub last_before : (xs : List Stamped) (x : Stamped) (stamp : ℕ) → IsRising xs → x ≡ get_or xs (length xs - 1) x → x.stamp < stamp → tally (λ y. nat_le stamp y.stamp) xs ≡ 0
+last_before [] x stamp rising is below = refl
+last_before (y ∷ ys) x stamp rising is below = last_at (y ∷ ys) x (length (y ∷ ys) - 1) stamp rising (omega arith) is below

@@ -11,9 +11,11 @@ use Rattle.waits.specs.Jobs.{Queue, is_ready, one_if, total, ready_count, first_
 use Rattle.waits.specs.Stamps.{weigh, tally, after, put_in, in_order, queue_of, count_before, AreStamped, IsWith}
 use Rattle.waits.specs.declared.job.Job.{Job}
 use Rattle.waits.specs.Kept.{Kept, IsFirstOf}
+use Rattle.waits.specs.declared.stamp_search.Bound.{Bound}
 use Rattle.waits.proofs.Sums.{weigh_append, weigh_le, weigh_map, weigh_same, weigh_sum, weigh_filter, part_le, tally_less}
 use Rattle.waits.proofs.Counted.{among_sum, among_length}
 use Rattle.waits.proofs.Asked.{ones, all_before}
+use Rattle.waits.proofs.Places.{fewer_before}
 use Rattle.waits.proofs.Order.{weigh_in_order, sorted_in_order, pulled, last_put, first_put, none_first, total_queue, ready_put}
 
 -- ---- the stamps stay apart
@@ -254,21 +256,26 @@ pub none_shown : (A : Type 0) {X : Type 0} (found : Option X) (n : ℕ) → IfNo
 none_shown A (Some x) n none never = tt
 none_shown A None n none never = absurd (never none)
 
--- just so many of the jobs below some stamp in between are ready
-pub record IsBetween (xs : List Stamped) (k least above : ℕ) : Type 0 where
-  pub low : count_before (λ y. is_ready y.one) least xs ≤ k
-  pub high : k < count_before (λ y. is_ready y.one) above xs
-  pub order : least < above
+-- the stamp that is looked for isn't below the one bound, and is below the other
+pub record IsBetween (xs : List Stamped) (k : ℕ) (low high : Bound) : Type 0 where
+  pub below_low : low.ready ≡ count_before (λ y. is_ready y.one) low.stamp xs
+  pub below_high : high.ready ≡ count_before (λ y. is_ready y.one) high.stamp xs
+  pub few : low.ready ≤ k
+  pub more : k < high.ready
+  pub order : low.stamp < high.stamp
 
-above_zero : (xs : List Stamped) (k limit : ℕ) → k < count_before (λ y. is_ready y.one) limit xs → 0 < limit
-above_zero xs k zero high = absurd (omega (arith, none_before_zero (λ y. is_ready y.one) xs))
-above_zero xs k (suc limit) high = omega arith
+fewer_by : (xs : List Stamped) (low high : ℕ) (is : Bool) → nat_lt low high ≡ is → count_before (λ y. is_ready y.one) low xs < count_before (λ y. is_ready y.one) high xs → low < high
+fewer_by xs low high true is less = ltb-true low high is
+fewer_by xs low high false is less = absurd (omega (arith, fewer_before (λ y. is_ready y.one) high low (ltb-false low high is) xs))
 
-pub all_between : (xs : List Stamped) (k limit : ℕ) → AreStamped limit xs → k < tally (λ y. is_ready y.one) xs → IsBetween xs k 0 limit
-all_between xs k limit one more =
-    let high : k < count_before (λ y. is_ready y.one) limit xs = omega (arith, more, all_before (λ y. is_ready y.one) limit xs one.below) in
+-- the first bounds: below the one none is ready, and all stamps are below the other
+pub all_between : (xs : List Stamped) (k : ℕ) (low high : Bound) → AreStamped high.stamp xs → k < tally (λ y. is_ready y.one) xs → low.ready ≡ 0 → count_before (λ y. is_ready y.one) low.stamp xs ≡ 0 → high.ready ≡ count_before (λ y. is_ready y.one) high.stamp xs → IsBetween xs k low high
+all_between xs k low high one more none first last =
+    let all = all_before (λ y. is_ready y.one) high.stamp xs one.below in
     record {
-      low = omega (arith, none_before_zero (λ y. is_ready y.one) xs);
-      high = high;
-      order = above_zero xs k limit high;
+      below_low = omega (arith, none, first);
+      below_high = last;
+      few = omega (arith, none);
+      more = omega (arith, more, all, last);
+      order = fewer_by xs low.stamp high.stamp (nat_lt low.stamp high.stamp) refl (omega (arith, more, all, first));
     }

@@ -4,11 +4,11 @@ ghost use Rattle.std.specs.Prelude.{◌≡◌, ◌+◌, ◌<◌, ◌≤◌, [], 
 ghost use Rattle.std.specs.Option.{option_copied};
 ghost use Rattle.std.specs.List.{list_any};
 ghost use Rattle.waits.specs.Limits.{most_jobs, most_job_bytes};
-ghost use Rattle.waits.specs.Jobs.{accepted, is_call, is_overdue, is_ready, has_failed, ready_count, ready_job, without_ready, first_job, without_first, settled, without_session, job_count, job_bytes, waiting_count, blocked_count_of, overdue_count, overdue_count_of, load_of};
-ghost use Rattle.waits.specs.Stamps.{count_before, tally, AreStamped};
+ghost use Rattle.waits.specs.Jobs.{accepted, is_call, is_overdue, has_failed, ready_count, ready_job, without_ready, first_job, without_first, settled, without_session, job_count, job_bytes, waiting_count, blocked_count_of, overdue_count, overdue_count_of, load_of};
 
 use crate::job::{Job, Unfinished};
 use crate::owners::Owners;
+use crate::stamp_search::least_stamp;
 use crate::stamped::Stamped;
 use crate::telling::Answer;
 use crate::wanted::Wanted;
@@ -30,9 +30,9 @@ pub const WAIT_SECONDS: u64 = 30;
 ///
 /// Each session has its own jobs, in order, and each job has a stamp, by which those of all sessions are in order. So what
 /// a session asks, or is told, looks at no job of another one. A search over all looks, in each session that may have what
-/// is looked for, at the jobs up to the first such one; that for a later place among the ready ones counts those in front
-/// anew at each halving of the stamps. A job stands in a node that was made before, and the node of one that is taken out
-/// is kept for the next.
+/// is looked for, at the jobs up to the first such one. That for a later place among the ready ones tries a few stamps, and
+/// counts for each how many ready jobs are in front of it: in a session of which all are, without a look at more than the
+/// last. A job stands in a node that was made before, and the node of one that is taken out is kept for the next.
 #[derive(Debug, Drop)]
 pub struct Jobs {
     owners: Owners,
@@ -253,32 +253,4 @@ impl Jobs {
             room: self.room,
         })
     }
-}
-
-/// How many jobs with a stamp below this one are ready.
-fn ready_before(owners: &Owners, stamp: u64) -> usize
-    ensures { result ≡ count_before (λ x. is_ready x.one) stamp owners.now.jobs }
-{
-    owners.count(&Wanted::Ready(0), stamp)
-}
-
-/// A stamp below which just so many jobs are ready. More than these are, and all stamps are below the limit.
-fn least_stamp(owners: &Owners, limit: u64, count: usize) -> u64
-    requires enough { count < tally (λ x. is_ready x.one) owners.now.jobs }
-    requires stamped { AreStamped limit owners.now.jobs }
-    ensures { count_before (λ x. is_ready x.one) result owners.now.jobs ≡ count }
-{
-    if count == 0 {
-        return 0;
-    }
-    let (mut least, mut above) = (0, limit);
-    while above - least > 1 {
-        let middle = least + (above - least) / 2;
-        if ready_before(owners, middle) <= count {
-            least = middle;
-        } else {
-            above = middle;
-        }
-    }
-    least
 }

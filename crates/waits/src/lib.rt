@@ -10,6 +10,7 @@ mod jobs;
 pub mod laws;
 mod owner;
 mod owners;
+mod stamp_search;
 mod stamped;
 mod telling;
 mod totals;

@@ -1,11 +1,11 @@
 //! The jobs of one session.
 
-ghost use Rattle.std.specs.Prelude.{◌≡◌, ◌+◌, ◌<◌, ◌≤◌, ◌&&◌, ◌∷◌, ◌++◌, [], true, length, take, drop, map, slice_index_or, IfOk, IfSome, IfNone};
+ghost use Rattle.std.specs.Prelude.{◌≡◌, ◌+◌, ◌<◌, ◌≤◌, ◌&&◌, ◌∷◌, ◌++◌, [], true, false, length, take, drop, map, slice_index_or, IfOk, IfSome, IfNone};
 ghost use Rattle.std.specs.List.{list_any};
 ghost use Rattle.waits.specs.Limits.{most_jobs, most_job_bytes};
-ghost use Rattle.waits.specs.Jobs.{is_of, load_of};
+ghost use Rattle.waits.specs.Jobs.{is_of, is_ready, load_of};
 ghost use Rattle.waits.specs.Numbers.{are_above};
-ghost use Rattle.waits.specs.Stamps.{after, bytes_of, count_before};
+ghost use Rattle.waits.specs.Stamps.{after, bytes_of, count_before, tally};
 ghost use Rattle.waits.specs.Totals.{AreTotals};
 ghost use Rattle.waits.specs.Wanted.{is_wanted};
 ghost use Rattle.waits.specs.declared.stamped.Stamped.{Stamped as One};
@@ -15,7 +15,7 @@ use crate::job::Job;
 use crate::stamped::{Nodes, Stamped, cut, fill, join, only, pick};
 use crate::telling::{self, Answer};
 use crate::totals::Totals;
-use crate::wanted::{First, Wanted, count_in, first_in, is_wanted, place_in};
+use crate::wanted::{First, Wanted, are_before, count_in, first_in, is_wanted, place_in};
 use octets::Memory;
 use std::alloc::Global;
 use std::collections::LinkedList;
@@ -95,12 +95,19 @@ impl Owner {
         self.bytes
     }
 
+    /// Whether one may be looked for, by what is counted of them and by the last stamp. Looks at the last one alone.
+    fn may_have(&self, wanted: &Wanted) -> bool
+        ensures { result ≡ false → tally (is_wanted wanted.now) self.now.jobs ≡ 0 }
+    {
+        self.totals.may_have(wanted) && !are_before(&self.jobs, wanted.least_stamp())
+    }
+
     /// The first that is looked for and has a stamp below the limit. Looks at no job behind.
     pub(crate) fn first(&self, wanted: &Wanted, limit: u64) -> Option<First>
         ensures found { IfSome result (λ first. IsFirst (is_wanted wanted.now) limit self.now.jobs first) }
         ensures none { IfNone result (count_before (is_wanted wanted.now) limit self.now.jobs ≡ 0) }
     {
-        if !self.totals.may_have(wanted) {
+        if !self.may_have(wanted) {
             return None;
         }
         first_in(&self.jobs, wanted, limit)
@@ -117,18 +124,29 @@ impl Owner {
     pub(crate) fn count(&self, wanted: &Wanted, limit: u64) -> usize
         ensures { result ≡ count_before (is_wanted wanted.now) limit self.now.jobs }
     {
-        if !self.totals.may_have(wanted) {
+        if !self.may_have(wanted) {
             return 0;
         }
         count_in(&self.jobs, wanted, limit)
     }
 
-    /// The job at a place.
-    pub(crate) fn job(&self, at: usize) -> &Job
-        requires { at < length self.now.jobs }
-        ensures { (d : One) → result.now ≡ (slice_index_or self.now.jobs at d).one.job }
+    /// How many are ready and have a stamp below the limit. Looks at the last one alone where that is below the limit, or none
+    /// is ready, and else at no job behind.
+    pub(crate) fn ready_before(&self, limit: u64) -> usize
+        ensures { result ≡ count_before (λ x. is_ready x.one) limit self.now.jobs }
     {
-        &self.jobs.iter().nth(at).unwrap().one.job
+        if are_before(&self.jobs, limit) {
+            return self.totals.count - self.totals.blocked;
+        }
+        self.count(&Wanted::Ready(0), limit)
+    }
+
+    /// The job at a place, with its stamp.
+    pub(crate) fn job(&self, at: usize) -> &Stamped
+        requires { at < length self.now.jobs }
+        ensures { (d : One) → result.now ≡ slice_index_or self.now.jobs at d }
+    {
+        self.jobs.iter().nth(at).unwrap()
     }
 
     /// Puts a job of the session behind the others, into this node.

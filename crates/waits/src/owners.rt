@@ -3,7 +3,7 @@
 ghost use Rattle.std.specs.Prelude.{◌≡◌, ◌+◌, ◌<◌, ◌≤◌, ◌^◌, [], List, not, length, map, position, vec_len, vec_capacity, IfOk, IfSome, IfNone, OnOk, OnErr};
 ghost use Rattle.std.specs.List.{filter, list_any};
 ghost use Rattle.waits.specs.Limits.{most_jobs, most_job_bytes};
-ghost use Rattle.waits.specs.Jobs.{is_of, load_of, is_call};
+ghost use Rattle.waits.specs.Jobs.{is_of, is_ready, load_of, is_call};
 ghost use Rattle.waits.specs.Stamps.{after, bytes_of, count_before, own, IsWith};
 ghost use Rattle.waits.specs.Totals.{AreTotals};
 ghost use Rattle.waits.specs.Wanted.{is_wanted};
@@ -204,6 +204,17 @@ impl Owners {
         count
     }
 
+    /// How many jobs with a stamp below the limit are ready. Looks, in a session whose last stamp is below it, at that job alone.
+    pub(crate) fn ready_before(&self, limit: u64) -> usize
+        ensures { result ≡ count_before (λ x. is_ready x.one) limit self.now.jobs }
+    {
+        let mut count = 0;
+        for place in 0..self.list.len() {
+            count += self.list[place].ready_before(limit);
+        }
+        count
+    }
+
     /// How many of a session's are.
     pub(crate) fn count_of(&self, key: u64, session: u64, wanted: &Wanted, limit: u64) -> usize
         ensures { result ≡ count_before (is_wanted wanted.now) limit (own key session self.now.jobs) }
@@ -230,7 +241,17 @@ impl Owners {
         ensures none { IfNone result (count_before (is_wanted wanted.now) limit self.now.jobs ≡ 0) }
     {
         let place = first_place(&self.list, wanted, limit)?;
-        Some(self.list[place.owner].job(place.at))
+        Some(&self.list[place.owner].job(place.at).one.job)
+    }
+
+    /// The least stamp of the jobs that are looked for, where one of these is below the limit; else the limit.
+    pub(crate) fn first_stamp(&self, wanted: &Wanted, limit: u64) -> u64
+        ensures { count_before (is_wanted wanted.now) result self.now.jobs ≡ 0 }
+    {
+        match first_place(&self.list, wanted, limit) {
+            Some(place) => self.list[place.owner].job(place.at).stamp,
+            None => limit,
+        }
     }
 
     /// Puts a job behind the others of its session. There is room for it.

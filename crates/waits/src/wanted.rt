@@ -1,9 +1,10 @@
 //! What a search over jobs looks for, and a search over those of one session.
 
-ghost use Rattle.std.specs.Prelude.{◌≡◌, position, IfSome, IfNone};
-ghost use Rattle.waits.specs.Stamps.{count_before, IsRising};
+ghost use Rattle.std.specs.Prelude.{◌≡◌, ◌≤◌, true, nat_le, position, IfSome, IfNone};
+ghost use Rattle.waits.specs.Stamps.{count_before, tally, IsRising};
 ghost use Rattle.waits.specs.Wanted.{is_wanted};
 ghost use Rattle.waits.specs.Parts.{IsFirst};
+ghost use Rattle.waits.specs.declared.stamped.Stamped.{Stamped as One};
 
 use crate::stamped::{Nodes, Stamped};
 use crate::totals::one_if;
@@ -22,6 +23,18 @@ pub(crate) enum Wanted {
     Call(u64, u64, u64),
     /// A job that waits for that call.
     Waiter(u64, u64, u64),
+}
+
+impl Wanted {
+    /// No job with a stamp below this one is looked for.
+    pub(crate) fn least_stamp(&self) -> u64
+        ensures { (x : One) → is_wanted self.now x ≡ true → result ≤ x.stamp }
+    {
+        match *self {
+            Wanted::Ready(from) => from,
+            _ => 0,
+        }
+    }
 }
 
 /// Whether a job is what is looked for.
@@ -73,6 +86,20 @@ pub(crate) fn first_in(jobs: &Nodes, wanted: &Wanted, limit: u64) -> Option<Firs
         at += 1;
     }
     None
+}
+
+/// Whether the last stamp shows that all are below this one. Looks at the last job alone, and where this is 0 at none.
+pub(crate) fn are_before(jobs: &Nodes, stamp: u64) -> bool
+    requires { IsRising jobs.now }
+    ensures { result ≡ true → tally (λ x. nat_le stamp x.stamp) jobs.now ≡ 0 }
+{
+    if stamp == 0 {
+        return false;
+    }
+    match jobs.back() {
+        Some(last) => last.stamp < stamp,
+        None => true,
+    }
 }
 
 /// How many jobs are looked for and have a stamp below the limit. Looks at no job behind.

@@ -15,6 +15,6 @@ returns-clause-found c =
     let x = first.0 in (
       x,
       first.1,
-      c.job.ensures x ∙ (ap (λ (p : Part). (get_or p.jobs place.at x).one.job) c.index.ensures ∙ ap (λ (y : Stamped). y.one.job) (first.2 part x)),
+      ap (λ (y : Stamped). y.one.job) (c.job.ensures x ∙ (ap (λ (p : Part). get_or p.jobs place.at x) c.index.ensures ∙ first.2 part x)),
       subst (λ (kept : Kept). IsFirstOf test x first.1 kept.jobs) c.self.view_is first.3,
     )
