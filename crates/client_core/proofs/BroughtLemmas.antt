@@ -1,6 +1,7 @@
 -- A container brings nothing beside the messages inside it.
-use Rattle.std.proofs.Common.{◌≡◌, ◌∙◌, ℕ, Bool, true, false, List, [], length, take, drop, ap, refl, sym, Some, arith}
+use Rattle.std.proofs.Common.{◌≡◌, ◌∙◌, ℕ, Bool, true, false, List, [], ◌∷◌, ◌++◌, length, take, drop, ap, refl, sym, Some, arith}
 use Rattle.std.specs.Prelude.{◌==◌, ◌&&◌, nat_le, nat_lt, if◌then◌else◌, Result, Ok, Err}
+use Rattle.std.specs.List.{AllByRecursion}
 use Rattle.std.proofs.lemmas.Bool.{eqb-true}
 use Rattle.std.proofs.lemmas.Bool.Decides.{nat_tests}
 use Rattle.byteorder.specs.Endian.{little_number}
@@ -51,3 +52,9 @@ int_container body told =
 
 pub container_brings : (body : List ℕ) → begins_container body ≡ true → brought.Nothing ≡ brought_of (item_of body)
 container_brings body told = behind_container (drop 4 body) ∙ ap (λ read. brought_of (item_after read)) (sym (int_container body told))
+
+-- ---- one more that can be taken
+
+pub all_more : {X : Type 0} (P : X → Type 0) (xs : List X) (y : X) → AllByRecursion P xs → P y → AllByRecursion P (xs ++ y ∷ [])
+all_more P [] y h new = (new, tt)
+all_more P (x ∷ xs) y h new = (h.0, all_more P xs y h.1 new)

@@ -3,10 +3,10 @@ use Rattle.std.proofs.Common.{◌≡◌, ℕ, zero, suc, ◌-◌, true, List, []
 use Rattle.std.specs.Prelude.{◌&&◌, length, option_map, slice_get}
 use Rattle.call_table.specs.declared.call.CallNo.{CallNo}
 use Rattle.call_table.specs.declared.call.Flags.{Flags}
-use Rattle.call_table.specs.Table.{Call, Table, at, changed, changed_at, flagged, with_call}
-use Rattle.call_table.specs.Kept.{Contents as Calls, Stands as StandsFor}
+use Rattle.call_table.specs.Table.{Call, at, changed, changed_at, flagged, with_call}
+use Rattle.call_table.specs.Kept.{Stands as StandsFor}
 use Rattle.client_rules.specs.Client.{Client}
-use Rattle.client_rules.specs.Asking.{alone, dropped, drops, has_call, is_call_sent}
+use Rattle.client_rules.specs.Asking.{dropped, drops, has_call, is_call_sent}
 use Rattle.client_core.specs.Kept.{Contents, Stands}
 
 abbrev pub value : {X : Type 0} → X → Option X → X
@@ -37,15 +37,3 @@ dropped_stands old new client call flags stands rest calls sent told =
       rest = rest ∙ stands.rest;
       calls = rw (sym (drops_told call client.table.calls flags told)) calls;
     })
-
-alone_of : (own : Option Call) (flags : Flags) → option_map (λ one. one.flags) own ≡ Some flags → option_map (flagged (record flags { alone = true })) own ≡ option_map alone own
-alone_of None flags told = refl
-alone_of (Some call) flags told = ap (λ now. Some (flagged (record now { alone = true }) call)) (sym (ap (value call.flags) told))
-
--- a call that is to be sent again, with its flags as they are told
-pub alone_stands : (new : Calls) (table : Table) (call : CallNo) (flags : Flags)
-    → StandsFor new (with_call call (flagged (record flags { alone = true })) table)
-    → option_map (λ one. one.flags) (at call table.calls) ≡ Some flags
-    → StandsFor new (with_call call alone table)
-alone_stands new table call flags calls told =
-    rw (sym (same_at (flagged (record flags { alone = true })) alone (call.n - 1) table.calls (alone_of (at call table.calls) flags told))) calls

@@ -21,10 +21,8 @@ use Rattle.client_core.specs.Kept.{Contents}
 use Rattle.client_core.specs.Owed.{HasRoomFrom, HasRoomOf, IsQueuedAt, SameQueue, behind_row, binding_bytes, binding_most, binding_numbers, bytes_at, bytes_from, call_bytes, calls_most, follows_at, front_bytes, has_unbound, holds_back, is_unbound, more_behind, needs_binding, queued_count, row_bytes, row_follows}
 use Rattle.client_core.proofs.CallLemmas.{value}
 use Rattle.client_core.proofs.ListLemmas.{get_none, get_some}
-use Rattle.client_core.proofs.MarkLemmas.{places_here}
-use Rattle.client_core.proofs.QueueLemmas.{leaves}
+use Rattle.client_core.proofs.QueueLemmas.{leaves, places_here}
 use Rattle.client_core.proofs.RoomLemmas.{room_left, room_less}
-use Rattle.client_core.proofs.WalkLemmas.{got_no, none_there}
 
 abbrev waits_row : Row → Bool
 waits_row row = is_row_in group.Queued row
@@ -189,11 +187,16 @@ split_at place found rows told =
     let same : got.0 ≡ found = omega (arith, got.1.0) in
     (got.1.1.0, subst (λ (n : ℕ). Split place n rows got.1.1.0) same got.1.1.1)
 
+-- the place is told by the call
+place_of : (own : Option ℕ) → own ≡ option_map (λ (call : CallNo). call.n - 1) (option_map call_no own)
+place_of None = refl
+place_of (Some place) = ap Some (omega arith)
+
 pub queued_at : (inside core : Contents) (place : ℕ) (call : CallNo) → inside ≡ core
     → Some call ≡ option_map call_no (slice_get (places_from waits_row 0 inside.calls.rows) place) → IsQueuedAt place call core.calls.rows
 queued_at inside core place call same told =
     ap (λ (own : Contents). slice_get (places_from waits_row 0 own.calls.rows) place) (sym same)
-    ∙ got_no (slice_get (places_from waits_row 0 inside.calls.rows) place) call (sym told)
+    ∙ (place_of (slice_get (places_from waits_row 0 inside.calls.rows) place) ∙ ap (option_map (λ (one : CallNo). one.n - 1)) (sym told))
 
 -- where it leaves the queue there is one fewer
 fewer_queued : (change : Row → Row) → ((own : Row) → waits_row (change own) ≡ false) → (place at : ℕ) (rows : List Row) → slice_get (places_from waits_row 0 rows) place ≡ Some at
@@ -276,7 +279,7 @@ counted_all rows k left bytes less so = omega (arith, from_end 0 k left rows les
 
 pub none_queued : (inside core : Contents) (k : ℕ) → inside ≡ core → None ≡ option_map call_no (slice_get (places_from waits_row 0 inside.calls.rows) k) → queued_count core.calls.rows ≤ k
 none_queued inside core k same told =
-    let none = get_none (places_from waits_row 0 inside.calls.rows) k (sym (none_there _ (sym told))) in
+    let none = get_none (places_from waits_row 0 inside.calls.rows) k (ap (option_map (λ (one : CallNo). one.n - 1)) told ∙ sym (place_of (slice_get (places_from waits_row 0 inside.calls.rows) k))) in
     omega (arith, none, ap (λ (own : Contents). queued_count own.calls.rows) same)
 
 -- ---- what holds back, and what is asked for

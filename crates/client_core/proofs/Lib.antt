@@ -12,18 +12,14 @@ pub mod GoesLemmas
 pub mod HolderLemmas
 pub mod KeyLemmas
 pub mod ListLemmas
-pub mod MarkLemmas
 pub mod TestLemmas
 pub mod ErrorLemmas
 pub mod MarkingLemmas
 pub mod BroughtLemmas
 pub mod NoticeLemmas
 pub mod ResultLemmas
-pub mod SettledLemmas
 pub mod TakingLemmas
-pub mod WalkLemmas
 pub mod RoomLemmas
-pub mod RuleLemmas
 pub mod NumberLemmas
 pub mod OwedLemmas
 pub mod OwnLemmas
@@ -33,6 +29,5 @@ pub mod QuietLemmas
 pub mod SayLemmas
 pub mod SealLemmas
 pub mod SizeLemmas
-pub mod SoundLemmas
 pub mod TurnLemmas
 pub mod WhyLemmas

@@ -6,7 +6,7 @@ use Rattle.call_table.specs.Kept.{Stands as StandsFor}
 use Rattle.client_rules.specs.Client.{Client, calls_of}
 use Rattle.client_rules.specs.Learning.{with_clock}
 use Rattle.client_rules.specs.Taking.{Notice, alone_among, has_asked, noticed, noticed_by, packet_noticed, with_notice_clock, with_notice_salt}
-use Rattle.client_core.specs.Marks.{table_alone}
+use Rattle.client_calls.specs.Marks.{table_alone}
 use Rattle.client_core.specs.Kept.{Contents, Stands}
 use Rattle.client_core.proofs.MarkingLemmas.{numbers_lifted}
 

@@ -1,5 +1,5 @@
--- The numbers under which calls are outstanding.
-use Rattle.std.proofs.Common.{◌≡◌, ◌∙◌, ℕ, nat_lt, true, false, List, [], ◌∷◌, Option, Some, None, ap, refl, sym, inl, inr, arith}
+-- The numbers under which calls are outstanding, and the next one.
+use Rattle.std.proofs.Common.{◌≡◌, ◌∙◌, ℕ, ◌<◌, nat_lt, true, false, List, [], ◌∷◌, Option, Some, None, ap, refl, sym, inl, inr, arith}
 use Rattle.std.specs.Prelude.{if◌then◌else◌, option_map, fold, filter_map}
 use Rattle.std.specs.List.{AllZip, cons_option}
 use Rattle.std.proofs.lemmas.Bool.{cases_Bool}
@@ -11,6 +11,7 @@ use Rattle.call_table.specs.declared.row.Progress.TheVariants as progress
 use Rattle.call_table.specs.declared.row.Row.{Row}
 use Rattle.call_table.specs.Table.{State, Sent, Name, Call, living_name, living_name_in, living_numbers, with_number, with_own}
 use Rattle.call_table.specs.Kept.{IsNewest, IsProgressOf, IsRowOf, number_in, numbers_in}
+use Rattle.msg_ids.specs.Counters.{next_number}
 use Rattle.client_rules.specs.Filling.{inserted, living_number}
 
 ins_less : (x a : ℕ) (xs : List ℕ) → nat_lt x a ≡ true → inserted (x ∷ xs) a ≡ x ∷ inserted xs a
@@ -108,3 +109,7 @@ kept_numbers (row ∷ rows) [] is = absurd is
 kept_numbers (row ∷ rows) (call ∷ calls) is =
     ap (λ own. with_own own (numbers_in rows)) (row_number row.progress call.state call.names is.0.progress)
     ∙ ap (with_own (option_map (λ name. name.message.number) (living_name call))) (kept_numbers rows calls is.1)
+
+-- the next number is behind the last one
+pub next_behind : (last now : ℕ) → last < next_number last now
+next_behind last now = omega arith

@@ -18,7 +18,7 @@ use Rattle.client_core.specs.Owed.{asked_count, call_bytes, has_unbound, holds_b
 use Rattle.client_core.specs.Draft.{Draft, HasRoomFor, TakesUp}
 use Rattle.client_core.proofs.RoomLemmas.{room_left}
 use Rattle.client_core.proofs.CallLemmas.{value}
-use Rattle.client_core.proofs.MarkLemmas.{places_here}
+use Rattle.client_core.proofs.QueueLemmas.{places_here}
 
 -- ---- the bytes of a call
 

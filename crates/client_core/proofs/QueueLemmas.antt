@@ -11,7 +11,17 @@ use Rattle.client_rules.specs.Filling.{Filling, says_call, says_call_at}
 use Rattle.client_core.specs.Kept.{Contents}
 use Rattle.client_core.specs.Draft.{Draft, Goes, LeavesQueue, SoFar, queue}
 use Rattle.client_core.proofs.CallLemmas.{value}
-use Rattle.client_core.proofs.MarkLemmas.{named_at, places_here}
+
+abbrev pub put : Bool → ℕ → List ℕ → List ℕ
+put is place places = if is then place ∷ places else places
+
+pub places_here : {X : Type 0} (test : X → Bool) (place : ℕ) (x : X) (xs : List X) (is : Bool) → test x ≡ is → places_from test place (x ∷ xs) ≡ put is place (places_from test (place + 1) xs)
+places_here test place x xs is told = ap (λ b. put b place (places_from test (place + 1) xs)) told
+
+named_at : (places : List ℕ) (k : ℕ) → slice_get places k ≡ option_map (λ (call : CallNo). call.n - 1) (slice_get (map call_no places) k)
+named_at [] k = refl
+named_at (place ∷ places) zero = ap Some (omega arith)
+named_at (place ∷ places) (suc k) = named_at places k
 
 abbrev pub Leaves : {X : Type 0} → (X → Bool) → (X → X) → ℕ → ℕ → ℕ → List X → Type 0
 Leaves test f place j k xs = (i : ℕ) × ((k ≡ place + i) × (drop j (places_from test place (changed_at i f xs)) ≡ drop (suc j) (places_from test place xs)))

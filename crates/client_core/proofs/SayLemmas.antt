@@ -10,7 +10,7 @@ use Rattle.client_rules.specs.Client.{Client, States}
 use Rattle.client_rules.specs.Filling.{Turn, turn_of}
 use Rattle.client_core.specs.Due.{any_of, goes_now, goes_of}
 use Rattle.client_core.specs.Kept.{states_in}
-use Rattle.client_core.specs.Sound.{AreSound}
+use Rattle.client_calls.specs.Sound.{AreSound}
 use Rattle.client_core.specs.declared.waiting.States.{States as KeptStates}
 
 told_in : (own : Option KeptStates) → IfSome own (λ states. length states.info ≤ 8192) → IfSome (option_map states_in own) (λ states. length states.info ≤ 8192)

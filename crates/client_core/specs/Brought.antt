@@ -9,12 +9,13 @@ use Rattle.service_tl.specs.declared.item.Item.TheVariants.{RpcResult, NewSessio
 use Rattle.service_tl.specs.ItemOf.{item_of}
 use Rattle.call_table.specs.declared.call.CallNo.{CallNo}
 use Rattle.call_table.specs.declared.call.Fate.TheVariants as fate
-use Rattle.call_table.specs.Table.{acknowledged, owner}
-use Rattle.client_rules.specs.Client.{Client, Binding, Bound, Refused, calls_of, with_binding}
+use Rattle.call_table.specs.Table.{Table, acknowledged, owner}
+use Rattle.client_rules.specs.Client.{Client, StateRequest, Binding, Bound, Refused, calls_of, with_binding}
 use Rattle.client_rules.specs.Asking.{begins}
 use Rattle.client_rules.specs.Learning.{learn}
 use Rattle.client_rules.specs.Taking.{alone_number, asks_answer, becomes, binding_error, has_asked, noticed, told_of, told_states}
 use Rattle.msg_ids.specs.Counters.{is_odd}
+use Rattle.client_calls.specs.Marks.{table_states}
 use Rattle.client_core.specs.declared.brought.Brought.{Brought}
 use Rattle.client_core.specs.declared.brought.Brought.TheVariants as brought
 use Rattle.client_core.specs.declared.brought.Incoming.{Incoming}
@@ -93,3 +94,10 @@ acknowledges_number number seq client =
 abbrev pub takes_lesson : ℕ → Client → Incoming → Client
 takes_lesson outer client lesson =
     if client.has_ended then client else row_of outer lesson.number lesson.brought (acknowledges_number lesson.number lesson.seq client)
+
+-- ---- what it changes of the calls
+
+-- states are told of the messages that a request asked about
+abbrev pub table_told_of : Option StateRequest → ℕ → List ℕ → Table → Table
+table_told_of None request info table = table
+table_told_of (Some asked) request info table = if asked.number == request then table_states asked.numbers info table else table

@@ -10,10 +10,8 @@ pub mod Holding
 pub mod One
 pub mod Own
 pub mod Told
-pub mod Rules
 pub mod Numbers
 pub mod Brought
-pub mod Marks
 pub mod Took
 pub mod Sound
 pub mod Results

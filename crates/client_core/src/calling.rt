@@ -13,12 +13,14 @@ ghost use Rattle.client_rules.specs.Flush.{first_marked, gone_again, remembers_l
 ghost use Rattle.client_rules.specs.Sending.{draw_after_packet, packet_of};
 ghost use Rattle.client_core.specs.Flushed.{IsSealed, setting_of};
 ghost use Rattle.client_core.specs.Kept.{Stands};
-ghost use Rattle.client_core.specs.Sound.{AreSound, IsSendable};
+ghost use Rattle.client_calls.specs.Sound.{AreSound};
+ghost use Rattle.client_core.specs.Sound.{IsSendable};
 ghost use Rattle.client_core.specs.Calling.{marked_in, wrap_bytes};
 
 use crate::core_client::Core;
 use crate::lone::Lone;
 use call_table::{CallNo, Calls, Flags, Group};
+use client_calls::laws::calls_stay_sound;
 use draws::Draw;
 use envelope::Seal;
 use msg_ids::Moment;
@@ -110,6 +112,7 @@ fn go_again(calls: &mut Calls, call: CallNo, salt: u64)
     ensures stands { (table : Table) → StandsFor calls.old table → StandsFor calls.new (with_call_in call (gone_again salt) table) }
     ensures sound { (last : ℕ) → AreSound last calls.old.rows → AreSound last calls.new.rows }
 {
+    calls_stay_sound();
     let flags = calls.flags(call);
     calls.set_flags(
         call,

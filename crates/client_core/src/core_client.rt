@@ -2,12 +2,12 @@
 
 ghost use Rattle.byteorder.specs.Endian.{little_number};
 ghost use Rattle.call_table.specs.Kept.{Stands as StandsFor, state_in};
-ghost use Rattle.call_table.specs.Table.{IsEarlier, IsGiven, Sent, Table, at, calls_max, state_at, with_call};
-ghost use Rattle.client_rules.specs.Asking.{alone, alone_if_asked, alone_if_sent, begins_service, body_bytes_max, is_call_sent, fault_at, has_call, has_earlier, is_refused};
+ghost use Rattle.call_table.specs.Table.{IsEarlier, IsGiven, Sent, Table, at, calls_max, state_at};
+ghost use Rattle.client_rules.specs.Asking.{alone_if_asked, begins_service, body_bytes_max, is_call_sent, fault_at, has_call, has_earlier, is_refused};
 ghost use Rattle.client_core.specs.Kept.{temporary_in};
-ghost use Rattle.client_core.specs.Sound.{AreSound, CanBind};
+ghost use Rattle.client_core.specs.Sound.{CanBind};
 ghost use Rattle.client_core.specs.Told.{TellsDrop, TellsFault};
-ghost use Rattle.std.specs.Prelude.{◌≡◌, if◌then◌else◌, ◌<◌, ◌≤◌, ◌%◌, ◌&&◌, ◌+◌, ℕ, [], None, option_map, Option, Some, IfOk, IfSome, IsTrue, OnOk, OnErr, length, map};
+ghost use Rattle.std.specs.Prelude.{◌≡◌, if◌then◌else◌, ◌<◌, ◌≤◌, ◌%◌, ◌&&◌, ◌+◌, [], None, option_map, Option, Some, IfOk, IfSome, IsTrue, OnOk, OnErr, length};
 
 use crate::binding::{BindState, Temporary};
 use crate::fault::{NotSent, SubmitFault};
@@ -15,6 +15,8 @@ use crate::number_list::NumberList;
 use crate::waiting::{Asked, Waiting};
 use byteorder::{ByteOrder, LittleEndian};
 use call_table::{CALLS_MAX, CallNo, CallState, Calls, Flags, Group};
+use client_calls::laws::calls_stay_sound;
+use client_calls::mark_sent;
 use draws::Draw;
 use msg_ids::{Moment, Numbers};
 use octets::Memory;
@@ -60,7 +62,8 @@ impl Model for Core {
 
     ghost Value = { Contents };
 
-    ghost use Rattle.client_core.specs.Sound.{AreSound, CanBind, CanWait};
+    ghost use Rattle.client_calls.specs.Sound.{AreSound};
+    ghost use Rattle.client_core.specs.Sound.{CanBind, CanWait};
 
     ghost view = { λ core. record {
       rest = record {
@@ -266,6 +269,7 @@ impl Core {
         if !can_drop(&self.calls, call) {
             return Err(NotSent);
         }
+        calls_stay_sound();
         let flags = self.calls.flags(call);
         self.calls.set_flags(
             call,
@@ -296,36 +300,6 @@ fn mark_asked(temporary: &mut Option<Temporary>)
     if let Some(temporary) = temporary {
         temporary.mark();
     }
-}
-
-/// All calls that are sent are to be sent again, alone.
-fn mark_sent(calls: &mut Calls)
-    ensures sound { (last : ℕ) → AreSound last calls.old.rows → AreSound last calls.new.rows }
-    ensures stands { (table : Table) → StandsFor calls.old table → StandsFor calls.new (record table { calls = map alone_if_sent table.calls }) }
-{
-    let count = calls.members(Group::Outstanding);
-    for k in 0..count {
-        if let Some(call) = calls.member(Group::Outstanding, k) {
-            mark(calls, call);
-        }
-    }
-}
-
-/// A call that is sent is to be sent again, alone.
-pub(crate) fn mark(calls: &mut Calls, call: CallNo)
-    requires given { IsGiven call calls.old.rows }
-    requires sent { state_in call calls.old.rows ≡ Some Sent }
-    ensures stands { (table : Table) → StandsFor calls.old table → StandsFor calls.new (with_call call alone table) }
-    ensures sound { (last : ℕ) → AreSound last calls.old.rows → AreSound last calls.new.rows }
-{
-    let flags = calls.flags(call);
-    calls.set_flags(
-        call,
-        Flags {
-            alone: true,
-            dropping: flags.dropping,
-        },
-    );
 }
 
 /// Whether a call is `Sent`.

@@ -21,6 +21,7 @@ use crate::asking::BindRoom;
 use crate::core_client::Core;
 use crate::filling::{Draft, Filled};
 use crate::says::given;
+use client_calls::laws::calls_stay_sound;
 use draws::Draw;
 use envelope::Seal;
 use octets::{Buffer, Octets};
@@ -127,6 +128,7 @@ impl Core {
             text,
             inner,
         } = filled;
+        calls_stay_sound();
         let at = self.time();
         let (number, seq) = given(&mut self.numbers, at, false);
         self.calls.remember(number, inner);

@@ -13,6 +13,7 @@ use crate::core_client::Core;
 use crate::turns::Turn;
 use call_table::laws::tables_tell;
 use call_table::{CallNo, Fate, Group};
+use client_calls::laws::calls_stay_sound;
 use draws::Draw;
 
 impl Core {
@@ -32,6 +33,7 @@ impl Core {
             Turn::Goes(_) => false,
             Turn::Waits => false,
             Turn::Never => {
+                calls_stay_sound();
                 self.calls.settle(call, Fate::Refused(0));
                 true
             }

@@ -6,7 +6,7 @@ ghost use Rattle.client_rules.specs.Learning.{seconds_of};
 use crate::binding::Binding;
 use crate::core_client::{Clock, Core};
 use crate::rebinding::set_binding;
-use crate::settling::{Rule, settle_all};
+use client_calls::{Rule, settle_all};
 
 /// The most unique numbers that are learnt in a session.
 const LEARNT_MAX: usize = 1024;

@@ -4,9 +4,9 @@ ghost use Rattle.std.specs.Prelude.{◌≡◌};
 ghost use Rattle.client_rules.specs.Taking.{fate_noticed};
 
 use crate::core_client::Core;
-use crate::marking::mark_inner;
 use crate::rebinding::{binding_noticed, has_asked, mark_binding};
 use call_table::{Cause, Fate};
+use client_calls::mark_inner;
 use service_tl::codes::{FORGOTTEN, NUMBER_TOO_HIGH, NUMBER_TOO_LOW, WRONG_SALT};
 
 /// What becomes of a call by a notice on its number.

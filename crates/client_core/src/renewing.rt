@@ -5,8 +5,8 @@ ghost use Rattle.std.specs.Prelude.{◌≡◌};
 use crate::binding::Binding;
 use crate::core_client::Core;
 use crate::rebinding::set_binding;
-use crate::settling::{Rule, settle_all};
 use crate::waiting::Waiting;
+use client_calls::{Rule, settle_all};
 use draws::Draw;
 use msg_ids::Numbers;
 

@@ -28,6 +28,7 @@ use crate::saying::Outgoing;
 use crate::waiting::{Asked, Waiting};
 use auth_keys::AuthKey;
 use call_table::{CallNo, Calls, Flags, Group};
+use client_calls::laws::calls_stay_sound;
 use draws::Draw;
 use envelope::Seal;
 use msg_ids::{Moment, Numbers};
@@ -293,6 +294,7 @@ impl Core {
         ensures takes { TakesUp binding_bytes 1 draft.old draft.new }
         ensures calls { self.new.calls ≡ self.old.calls }
     {
+        calls_stay_sound();
         let (number, seq) = given(&mut self.numbers, at, true);
         let inner = Inner {
             nonce: draw.word(),
@@ -328,6 +330,7 @@ impl Core {
         if !self.say::<D>(draft, &Outgoing::Drops { number }) {
             return false;
         }
+        calls_stay_sound();
         let flags = self.calls.flags(call);
         self.calls.set_flags(
             call,

@@ -1,26 +1,45 @@
 //! What a packet changes.
 
-ghost use Rattle.std.specs.Prelude.{◌≡◌, max};
+ghost use Rattle.std.specs.Prelude.{◌≡◌, ℕ, max, option_map};
+ghost use Rattle.call_table.specs.Kept.{Stands as StandsFor};
+ghost use Rattle.call_table.specs.Table.{Table};
+ghost use Rattle.client_calls.specs.Sound.{AreSound};
+ghost use Rattle.client_core.specs.Brought.{table_told_of};
+ghost use Rattle.client_core.specs.Kept.{asked_in};
 
 use crate::binding::Binding;
 use crate::brought::{Brought, Incoming};
 use crate::core_client::Core;
-use crate::marking::{mark_asked_states, mark_numbers, mark_states};
 use crate::rebinding::{binding_by, has_asked, set_binding};
-use crate::waiting::States;
-use call_table::{CallNo, Fate, Group};
+use crate::waiting::{Asked, States};
+use call_table::{CallNo, Calls, Fate, Group};
+use client_calls::laws::calls_stay_sound;
+use client_calls::{answer_call, mark_numbers, mark_states};
 use msg_ids::Moment;
 use octets::{IdList, Octets};
 use tl_codec::LONGS_MAX;
 
+/// The calls that are outstanding under the numbers that a request of this number asked about are to be sent again where
+/// their states say so.
+fn mark_asked_states(calls: &mut Calls, asked: &Option<Asked>, request: u64, states: &[u8])
+    ensures stands { (table : Table) → StandsFor calls.old table → StandsFor calls.new (table_told_of (option_map asked_in asked.now) request states.now table) }
+    ensures sound { (last : ℕ) → AreSound last calls.old.rows → AreSound last calls.new.rows }
+{
+    if let Some(asked) = asked {
+        if asked.number == request {
+            mark_states(calls, asked.numbers.ids(), states);
+        }
+    }
+}
+
 impl Core {
-    ghost use Rattle.std.specs.Prelude.{◌≡◌, ◌≤◌, ◌<◌, ◌+◌, IsTrue, true, false, Some, length, fold, max};
+    ghost use Rattle.std.specs.Prelude.{◌≡◌, ◌≤◌, ◌<◌, ◌+◌, IsTrue, true, false, Some, None, length, fold, max};
     ghost use Rattle.std.specs.List.{AllByRecursion};
     ghost use Rattle.tl_codec.specs.Standard.{longs_max};
     ghost use Rattle.client_rules.specs.Client.{Client, at_moment, is_open, with_binding};
     ghost use Rattle.client_rules.specs.Learning.{learnt_max};
-    ghost use Rattle.client_rules.specs.Taking.{alone_number, asks_answer, becomes, told_of, told_states, without_idle_wish};
-    ghost use Rattle.client_core.specs.Brought.{IsFit, acknowledges_number, answered, row_of, takes_lesson, tells, wished};
+    ghost use Rattle.client_rules.specs.Taking.{alone_number, asks_answer, becomes, has_asked, told_of, told_states, without_idle_wish};
+    ghost use Rattle.client_core.specs.Brought.{IsFit, acknowledges_number, answered, answered_as, row_of, takes_lesson, tells, wished};
     ghost use Rattle.client_core.specs.Kept.{Stands, at_end, binding_in};
     ghost use Rattle.client_core.specs.Sound.{CanGoAgain};
     ghost use Rattle.call_table.specs.Kept.{state_in};
@@ -57,6 +76,7 @@ impl Core {
         ensures room { self.new.room ≡ self.old.room }
         ensures learnt { self.new.rest.learnt ≡ self.old.rest.learnt }
     {
+        calls_stay_sound();
         self.calls.settle(call, fate);
     }
 
@@ -70,16 +90,25 @@ impl Core {
         set_binding(&mut self.temporary, binding);
     }
 
+    /// The binding is answered where it was asked for by the message of this number.
+    fn answer_binding(&mut self, about: u64, answer: &Octets, code: u32)
+        ensures stands { (client : Client) → Stands self.old client → Stands self.new (answered_as None (has_asked about client.temporary) answer.now code client) }
+        ensures room { self.new.room ≡ self.old.room }
+        ensures learnt { self.new.rest.learnt ≡ self.old.rest.learnt }
+    {
+        if has_asked(&self.temporary, about) {
+            self.rebind(binding_by(answer.as_slice(), code));
+        }
+    }
+
     /// The message of this number is answered, by an error of this code where the code isn't 0.
     fn answer(&mut self, about: u64, answer: Octets, code: u32)
         ensures stands { (client : Client) → Stands self.old client → Stands self.new (answered about answer code client) }
         ensures room { self.new.room ≡ self.old.room }
         ensures learnt { self.new.rest.learnt ≡ self.old.rest.learnt }
     {
-        if let Some(call) = self.calls.owner(about) {
-            self.settle_call(call, Fate::Done(answer));
-        } else if has_asked(&self.temporary, about) {
-            self.rebind(binding_by(answer.as_slice(), code));
+        if let Some(answer) = answer_call(&mut self.calls, about, answer) {
+            self.answer_binding(about, &answer, code);
         }
     }
 

@@ -15,6 +15,7 @@ use crate::core_client::Core;
 use crate::filling::Draft;
 use call_table::laws::tables_tell;
 use call_table::{CallNo, CallState, Calls, Fate, Group, Living};
+use client_calls::laws::calls_stay_sound;
 use draws::Draw;
 use service_tl::is_good;
 
@@ -114,6 +115,7 @@ impl Core {
         ensures same_room { length draft.new.rows + draft.new.room ≡ length draft.old.rows + draft.old.room }
         ensures rest { record self.new.rest { counters = self.old.rest.counters } ≡ self.old.rest }
     {
+        calls_stay_sound();
         let at = self.time();
         match draft.send(at, &mut self.numbers, wrap, self.calls.body(call)) {
             None => false,
@@ -146,6 +148,7 @@ impl Core {
             Turn::Goes(wrap) => self.sends_call::<D>(draft, call, wrap),
             Turn::Waits => false,
             Turn::Never => {
+                calls_stay_sound();
                 self.calls.settle(call, Fate::Refused(0));
                 true
             }

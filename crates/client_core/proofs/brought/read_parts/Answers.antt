@@ -3,7 +3,7 @@ use Rattle.std.proofs.lemmas.List.{append-nil, length-map}
 use Rattle.service_tl.specs.declared.lists.Message.{Message}
 use Rattle.client_core.specs.Brought.{IsFit, lesson_of}
 use Rattle.client_core.specs.declared.brought.Incoming.{Incoming}
-use Rattle.client_core.proofs.SoundLemmas.{all_more}
+use Rattle.client_core.proofs.BroughtLemmas.{all_more}
 use Rattle.client_core.proofs.brought.read_parts.Goals as goal
 
 pub loop-part-preserved : goal.loop-part-preserved

@@ -1,6 +1,5 @@
 use Rattle.std.proofs.Common.{◌∙◌}
 use Rattle.client_core.proofs.AloneLemmas.{again_stands, count_kept, state_kept}
-use Rattle.client_core.proofs.SoundLemmas.{sound_again, sound_flagged}
 use Rattle.client_core.proofs.calling.go_again.Goals as goal
 
 pub again-requires-clause-given : goal.again-requires-clause-given
@@ -19,4 +18,4 @@ returns-clause-stands c table stands =
 
 pub returns-clause-sound : goal.returns-clause-sound
 returns-clause-sound c last sound =
-    rw (c.again.ensures.kept) (sound_again last c.args.call c.args.salt _ (rw (c.set_flags.ensures.kept) (sound_flagged last c.args.call _ _ sound)))
+    rw (c.again.ensures.kept) (c.calls_stay_sound.ensures.again last c.args.call c.args.salt _ (rw (c.set_flags.ensures.kept) (c.calls_stay_sound.ensures.flagged last c.args.call _ _ sound)))

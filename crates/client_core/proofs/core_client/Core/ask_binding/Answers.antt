@@ -8,13 +8,13 @@ use Rattle.temp_keys.specs.Messages.{binding_message}
 use Rattle.client_core.specs.Asked.{asked_inner, asked_message}
 use Rattle.client_core.specs.Draft.{Holds}
 use Rattle.client_core.specs.Kept.{Contents}
-use Rattle.client_core.proofs.SoundLemmas.{next_behind, sound_later}
+use Rattle.client_core.proofs.NumberLemmas.{next_behind}
 use Rattle.client_core.proofs.RoomLemmas.{room_less, takes_more}
 use Rattle.client_core.proofs.core_client.Core.ask_binding.Goals as goal
 
 pub invariant_of-self : goal.invariant_of-self
 invariant_of-self g c = (
-  sound_later c.self.inside.numbers.last _ _ (omega (arith, ap (λ (own : Counters). own.last) c.given-number.ensures.counted, next_behind c.self.inside.numbers.last c.args.at)) c.self.invariant.0,
+  c.calls_stay_sound.ensures.later c.self.inside.numbers.last _ _ (omega (arith, ap (λ (own : Counters). own.last) c.given-number.ensures.counted, next_behind c.self.inside.numbers.last c.args.at)) c.self.invariant.0,
   c.set_binding.ensures.can_bind (omega (arith, c.body-body.ensures.size), omega (arith, c.body-body.ensures.size)),
   c.self.invariant.2,
 )

@@ -2,7 +2,7 @@ use Rattle.std.proofs.Common.{◌∙◌, ℕ, ◌-◌, ◌≤◌, List, length, 
 use Rattle.call_table.specs.declared.row.Row.{Row}
 use Rattle.client_rules.specs.Client.{Client, calls_of}
 use Rattle.client_core.specs.Kept.{Contents}
-use Rattle.client_core.specs.Sound.{AreSound}
+use Rattle.client_calls.specs.Sound.{AreSound}
 use Rattle.client_core.proofs.GoesLemmas.{told}
 use Rattle.client_core.proofs.SayLemmas.{bodies_few, told_few}
 use Rattle.client_core.proofs.core_client.Core.can_say.Goals as goal

@@ -1,7 +1,6 @@
 use Rattle.std.proofs.Common.{◌∙◌, refl}
 use Rattle.client_core.specs.Kept.{Stands}
 use Rattle.client_core.proofs.CallLemmas.{dropped_stands}
-use Rattle.client_core.proofs.SoundLemmas.{sound_flagged}
 use Rattle.client_core.proofs.core_client.Core.drop_answer.Goals as goal
 
 pub returns-clause-stands : goal.returns-clause-stands
@@ -14,4 +13,4 @@ returns-clause-stands c client stands =
 
 pub invariant_of-self : goal.invariant_of-self
 invariant_of-self c =
-    (rw (c.set_flags.ensures.kept) (sound_flagged _ c.args.call _ _ c.self.invariant.0), c.self.invariant.1, c.self.invariant.2)
+    (rw (c.set_flags.ensures.kept) (c.calls_stay_sound.ensures.flagged _ c.args.call _ _ c.self.invariant.0), c.self.invariant.1, c.self.invariant.2)

@@ -12,12 +12,11 @@ use Rattle.client_core.proofs.GoesLemmas.{goes_so, if_any, is_there, turn_any, t
 use Rattle.client_core.proofs.QueueLemmas.{left_group}
 use Rattle.client_core.proofs.QuietLemmas.{goes_next}
 use Rattle.client_core.proofs.SayLemmas.{goes_told}
-use Rattle.client_core.proofs.SoundLemmas.{sound_settled}
 use Rattle.client_core.proofs.core_client.Core.gives_up_call.Goals as goal
 
 pub invariant_of-self : goal.invariant_of-self
 invariant_of-self g c =
-    (rw (c.settle.ensures.kept) (sound_settled _ c.args.call (fate.Refused 0) _ c.self.invariant.0), c.self.invariant.1, c.self.invariant.2)
+    (rw (c.settle.ensures.kept) (c.calls_stay_sound.ensures.settled _ c.args.call (fate.Refused 0) _ c.self.invariant.0), c.self.invariant.1, c.self.invariant.2)
 
 pub returns-in-Goes-clause-goes : goal.returns-in-Goes-clause-goes
 returns-in-Goes-clause-goes g c filling is still =

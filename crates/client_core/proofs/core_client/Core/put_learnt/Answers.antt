@@ -1,14 +1,12 @@
 use Rattle.std.proofs.Common.{◌≡◌, ◌∙◌, ◌++◌, ◌∷◌, [], None, ap, sym}
-use Rattle.std.specs.Prelude.{not, option_map}
-use Rattle.client_core.specs.declared.settling.Rule.TheVariants.{Learnt}
+use Rattle.std.specs.Prelude.{option_map}
 use Rattle.client_rules.specs.Client.{Client, Needed, bound_so, is_open}
 use Rattle.client_core.specs.Kept.{Stands}
-use Rattle.client_core.proofs.SettledLemmas.{sound_by}
 use Rattle.client_core.proofs.core_client.Core.put_learnt.Goals as goal
 
 pub invariant_of-self : goal.invariant_of-self
 invariant_of-self c = (
-  rw (c.forget_packets.ensures.kept, c.settle_all.ensures.kept) (sound_by _ (Learnt (not c.is_open-is_first.result) c.args.salt) _ c.self.invariant.0),
+  rw (c.forget_packets.ensures.kept) (c.settle_all.ensures.sound _ c.self.invariant.0),
   c.set_binding.ensures.can_bind tt,
   (c.self.invariant.2.0, λ is. rw (sym c.self.view_is) at c.requires.sessions),
 )

@@ -8,13 +8,12 @@ use Rattle.call_table.specs.declared.row.Row.{Row}
 use Rattle.client_core.specs.Owed.{SameQueue}
 use Rattle.client_core.proofs.FrontLemmas.{same_flagged}
 use Rattle.client_core.proofs.GoesLemmas.{drop_leaves, goes_so, kept_calls, moved, same_goes, undropped_stands}
-use Rattle.client_core.proofs.SoundLemmas.{sound_flagged}
 use Rattle.client_core.proofs.TurnLemmas.{number_is}
 use Rattle.client_core.proofs.core_client.Core.says_drop.Goals as goal
 
 pub invariant_of-self : goal.invariant_of-self
 invariant_of-self g c =
-    (rw (c.set_flags.ensures.kept) (sound_flagged _ c.args.call _ _ c.self-2.invariant.0), c.self-2.invariant.1, c.self-2.invariant.2)
+    (rw (c.set_flags.ensures.kept) (c.calls_stay_sound.ensures.flagged _ c.args.call _ _ c.self-2.invariant.0), c.self-2.invariant.1, c.self-2.invariant.2)
 
 pub returns-then-not-say-clause-goes : goal.returns-then-not-say-clause-goes
 returns-then-not-say-clause-goes g c filling is =

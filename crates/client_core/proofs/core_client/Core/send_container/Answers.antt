@@ -9,12 +9,12 @@ use Rattle.client_rules.specs.Sending.{draw_after_packet, packet_of}
 use Rattle.client_core.specs.Filled.{body_in}
 use Rattle.client_core.specs.Flushed.{IsSealed, setting_of}
 use Rattle.client_core.specs.Kept.{Stands}
-use Rattle.client_core.proofs.SoundLemmas.{next_behind, sound_later}
+use Rattle.client_core.proofs.NumberLemmas.{next_behind}
 use Rattle.client_core.proofs.core_client.Core.send_container.Goals as goal
 
 pub invariant_of-self : goal.invariant_of-self
 invariant_of-self g c = (
-  rw (c.remember.ensures.kept) (sound_later c.self.inside.numbers.last _ _ (omega (arith, ap (λ (own : Counters). own.last) c.given-number.ensures.counted, next_behind c.self.inside.numbers.last c.time-at.result)) c.self.invariant.0),
+  rw (c.remember.ensures.kept) (c.calls_stay_sound.ensures.later c.self.inside.numbers.last _ _ (omega (arith, ap (λ (own : Counters). own.last) c.given-number.ensures.counted, next_behind c.self.inside.numbers.last c.time-at.result)) c.self.invariant.0),
   c.self.invariant.1,
   c.self.invariant.2,
 )

@@ -13,7 +13,7 @@ use Rattle.client_core.proofs.FrontLemmas.{room_goes}
 use Rattle.client_core.proofs.OwedLemmas.{goes_within}
 use Rattle.client_core.proofs.RoomLemmas.{room_less, takes_more}
 use Rattle.client_core.proofs.GoesLemmas.{if_body, kept_calls, sent_leaves}
-use Rattle.client_core.proofs.SoundLemmas.{next_behind, sound_later, sound_sent}
+use Rattle.client_core.proofs.NumberLemmas.{next_behind}
 use Rattle.client_core.proofs.core_client.Core.sends_call.Goals as goal
 
 pub invariant_of-self-in-Some : goal.invariant_of-self-in-Some
@@ -21,7 +21,7 @@ invariant_of-self-in-Some g c =
     let last = ap (λ (own : Counters). own.last) c.in-Some.ensures.counted in
     let number = ap (λ given. given.0) c.in-Some.ensures.given in
     let later = next_behind c.self.inside.numbers.last c.time-at.result in (
-      rw (c.send-in-Some.ensures.kept) (sound_sent _ c.args.call _ _ _ (omega (arith, last, number)) (sound_later c.self.inside.numbers.last _ _ (omega (arith, last, later)) c.self.invariant.0)),
+      rw (c.send-in-Some.ensures.kept) (c.calls_stay_sound.ensures.sent _ c.args.call _ _ _ (omega (arith, last, number)) (c.calls_stay_sound.ensures.later c.self.inside.numbers.last _ _ (omega (arith, last, later)) c.self.invariant.0)),
       c.self.invariant.1,
       c.self.invariant.2,
     )

@@ -1,0 +1,4 @@
+pub mod Answered
+pub mod Marks
+pub mod Rules
+pub mod Sound
