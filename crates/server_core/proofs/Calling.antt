@@ -1,9 +1,8 @@
 -- The kept replies that messages may call for, one message after the other.
-use Rattle.std.proofs.Common.{◌≡◌, ◌∙◌, ◌<◌, ◌+◌, ℕ, true, List, length, get_or, take, ap, sym, inl, inr}
+use Rattle.std.proofs.Common.{◌≡◌, ◌∙◌, ◌<◌, ◌+◌, ℕ, List, length, get_or, take, ap, sym, inl, inr}
 use Rattle.std.specs.Prelude.{◌||◌}
 use Rattle.std.proofs.lemmas.Bool.{or_cases, or_left, or_right}
 use Rattle.std.proofs.lemmas.List.Folds.{list_any_more}
-use Rattle.outbox.specs.declared.kept.Kept.{Kept}
 use Rattle.server_dispatch.specs.declared.dues.Due.{Due}
 use Rattle.server_dispatch.specs.Action.{asked_by, may_call}
 use Rattle.server_session.specs.Unsaid.{CallsFor, is_among, is_to}

@@ -54,3 +54,4 @@ pub mod Outcomes
 pub mod Acked
 pub mod Accepted
 pub mod FewerJobs
+pub mod Steady

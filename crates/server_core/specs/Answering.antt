@@ -109,6 +109,13 @@ pub record IsInTick {S : Type 0} (now : ℕ) (standings : List SessionState) (vo
       → answers_left now state.jobs (name_kept (slice_index_or standings i d)) ≤ (slice_index_or voices i e).left
   pub first : map (name_at standings) order ≡ names_in state.owed
 
+-- there is such an event
+pub record AreInTick (S : Type 0) (now : ℕ) (standings : List SessionState) (voices : List TickTurn) (order : List ℕ) (made : List Entry) (queue : Queue) : Type 0 where
+  pub bound : List Binding
+  pub draw : S
+  pub state : State S
+  pub is : IsInTick now standings voices order made queue bound draw state
+
 -- so many steps of answering all jobs for a cause were made, and what is left of them gives what all give
 pub record GoesOn {S : Type 0} (setting : Setting S) (cause : Cause) (steps all : ℕ) (standings : List SessionState) (voices : List TickTurn) (order : List ℕ) (made : List Entry) (queue : Queue) (bound : List Binding) (draw : S) (start : State S) : Type 0 where
   pub state : State S

@@ -28,7 +28,7 @@ pub record CanSpeak (keys : List RingKey) (moment : ℕ) (standing : SessionStat
   pub numbers : room_min ≤ numbers_left standing
   pub at : IsAt moment standing
 
--- what holds of each server
+-- sessions that can speak, and no more than there may be
 pub record IsSound (keys : List RingKey) (moment : ℕ) (standings : List SessionState) : Type 0 where
   pub few : length standings ≤ sessions_max
   pub speaking : All (CanSpeak keys moment) standings
@@ -53,6 +53,13 @@ pub record IsBetweenEvents (server : Server) : Type 0 where
 pub record StandsFor {S : Type 0} (kept : Kept S) (server : Server) : Type 0 where
   pub stands : Stands kept server
   pub between : IsBetweenEvents server
+
+-- What holds of each server: its sessions can speak in an event, and there is a server of the definitions that it stands for.
+pub record IsSteady {S : Type 0} (keys : List RingKey) (kept : Kept S) : Type 0 where
+  pub few : length kept.sessions ≤ sessions_max
+  pub speaking : All (CanSpeak keys kept.moment) kept.sessions
+  pub server : Server
+  pub stands_for : StandsFor kept server
 
 -- the sessions and the jobs without those of this name, where this is so
 

@@ -39,6 +39,7 @@ use inbox::Outer;
 use law_server_bounds::laws::lawful_messages_are_taken;
 use msg_ids::Moment;
 use octets::Memory;
+use ring_rules::laws::rings_have_keys;
 use server_session::SessionState;
 use server_session::laws::sessions_stand_later;
 use std::alloc::Global;
@@ -157,6 +158,9 @@ impl<S: Seal> Server<S> {
         one_session_takes::<D>();
         one_session_stays_alone::<D>();
         one_session_stays_in_order::<D>();
+        events_keep_order::<D>();
+        rings_have_keys();
+        is_early(moment);
         let (others, mut standing) = hears_known::<D>(&mut self.sessions, alloc, place);
         match judges_in_room(
             alloc,
@@ -223,6 +227,9 @@ impl<S: Seal> Server<S> {
         one_session_takes::<D>();
         one_session_stays_alone::<D>();
         one_session_stays_in_order::<D>();
+        events_keep_order::<D>();
+        rings_have_keys();
+        is_early(moment);
         let mut standing = SessionState::new(
             alloc,
             moment,

@@ -40,7 +40,7 @@ pub struct Server<S: Seal> {
 }
 
 impl<S: Seal> Model for Server<S> {
-    ghost use Rattle.server_core.specs.Server.{IsSound, Kept};
+    ghost use Rattle.server_core.specs.Server.{IsSteady, Kept};
 
     ghost Value = { Kept S };
 
@@ -52,7 +52,13 @@ impl<S: Seal> Model for Server<S> {
       bindings = server.bindings.bindings;
     } };
 
-    ghost invariant = { λ server. IsSound (S.keys server.seal) server.moment server.sessions };
+    ghost invariant = { λ server. IsSteady (S.keys server.seal) (record {
+      seal = server.seal;
+      moment = server.moment;
+      sessions = server.sessions;
+      jobs = server.jobs.jobs;
+      bindings = server.bindings.bindings;
+    }) };
 }
 
 impl<S: Seal> Server<S> {
@@ -175,6 +181,8 @@ impl<S: Seal> Server<S> {
         ensures same_seal { self.new.seal ≡ self.old.seal }
     {
         sessions_stand_later();
+        losses_keep_order();
+        is_early(moment);
         let effects = Effects::none(alloc)?;
         self.moment = moment;
         Ok(effects)
@@ -200,6 +208,8 @@ impl<S: Seal> Server<S> {
     {
         sessions_stand_later();
         sessions_speak_for_themselves::<D>();
+        events_keep_order::<D>();
+        is_early(moment);
         let entries = Entries::new(alloc, 0)?;
         let speech = self.sessions.room_to_attach(alloc, place)?;
         let out = self

@@ -18,7 +18,7 @@ ghost use Rattle.server_session.specs.Says.{Keys, setting_of};
 ghost use Rattle.server_dispatch.specs.Speaks.{HasRoom, Speaks, Spends};
 ghost use Rattle.server_core.specs.Losing.{IsHere};
 ghost use Rattle.server_core.specs.Sessions.{AreApart, is_kept_as};
-ghost use Rattle.server_core.specs.Answering.{AreVoices, IsDueTest, IsInTick, content_for, first_for, test_of, turn_with};
+ghost use Rattle.server_core.specs.Answering.{AreInTick, AreVoices, IsDueTest, IsInTick, content_for, first_for, test_of, turn_with};
 
 use crate::sessions::Sessions;
 use draws::Draw;
@@ -210,8 +210,10 @@ impl TickTurns {
         sessions: &mut Sessions,
         jobs: &mut Jobs,
     ) -> bool
+        requires tick { AreInTick D now sessions.old self.old.list.items self.old.order.items self.old.entries.entries jobs.old.jobs }
         requires voices { AreVoices sessions.old self.old.list.items self.old.order.items self.old.entries.room }
         requires capacity { length sessions.old ≤ vec_capacity self.old.order }
+        ensures tick { AreInTick D now sessions.new self.new.list.items self.new.order.items self.new.entries.entries jobs.new.jobs }
         ensures voices { AreVoices sessions.new self.new.list.items self.new.order.items self.new.entries.room }
         ensures capacity { length sessions.new ≤ vec_capacity self.new.order }
         ensures same_count { length sessions.new ≡ length sessions.old }
@@ -227,9 +229,10 @@ impl TickTurns {
         let Some(job) = cause.take(jobs, now) else {
             return false;
         };
-        if let Some(place) = sessions.place(job.key, job.session) {
-            self.answers::<D>(place, now, sessions, jobs, job, cause.short());
-        }
+        let Some(place) = sessions.place(job.key, job.session) else {
+            unreachable!()
+        };
+        self.answers::<D>(place, now, sessions, jobs, job, cause.short());
         true
     }
 
@@ -241,8 +244,10 @@ impl TickTurns {
         sessions: &mut Sessions,
         jobs: &mut Jobs,
     )
+        requires tick { AreInTick D now sessions.old self.old.list.items self.old.order.items self.old.entries.entries jobs.old.jobs }
         requires voices { AreVoices sessions.old self.old.list.items self.old.order.items self.old.entries.room }
         requires capacity { length sessions.old ≤ vec_capacity self.old.order }
+        ensures tick { AreInTick D now sessions.new self.new.list.items self.new.order.items self.new.entries.entries jobs.new.jobs }
         ensures voices { AreVoices sessions.new self.new.list.items self.new.order.items self.new.entries.room }
         ensures capacity { length sessions.new ≤ vec_capacity self.new.order }
         ensures same_count { length sessions.new ≡ length sessions.old }
@@ -266,8 +271,10 @@ impl TickTurns {
         sessions: &mut Sessions,
         jobs: &mut Jobs,
     )
+        requires tick { AreInTick D now sessions.old self.old.list.items self.old.order.items self.old.entries.entries jobs.old.jobs }
         requires voices { AreVoices sessions.old self.old.list.items self.old.order.items self.old.entries.room }
         requires capacity { length sessions.old ≤ vec_capacity self.old.order }
+        ensures tick { AreInTick D now sessions.new self.new.list.items self.new.order.items self.new.entries.entries jobs.new.jobs }
         ensures voices { AreVoices sessions.new self.new.list.items self.new.order.items self.new.entries.room }
         ensures same_count { length sessions.new ≡ length sessions.old }
         ensures here { (ring : List RingKey) → All (IsHere ring now) sessions.old → All (IsHere ring now) sessions.new }

@@ -41,6 +41,8 @@ impl<S: Seal> Server<S> {
         ensures same_seal { self.new.seal ≡ self.old.seal }
     {
         sessions_stand_later();
+        events_keep_order::<D>();
+        is_early(moment);
         let mut voices = fresh_voices(alloc, moment, &self.sessions, &self.jobs)?;
         let mut outs = Outs::new(alloc, PACKETS_MAX * self.sessions.count())?;
         reserves(&mut self.sessions, &voices.list, alloc, 0)?;

@@ -115,8 +115,7 @@ impl Sessions {
 impl<S: Seal> Server<S> {
     /// Runs the ready job of this place among the ready ones, from 0 in order of acceptance: the service runs its request, the
     /// session that asked keeps and sends the reply, and each job that fails by that is answered. The place has to be less
-    /// than `ready()`. In each server that it stands for the session of that job is there, and the first entry is the run
-    /// (`laws::runs_come_first`).
+    /// than `ready()`. The first entry is the run (`laws::runs_come_first`).
     ///
     /// # Errors
     ///
@@ -151,10 +150,10 @@ impl<S: Seal> Server<S> {
             key: job.key,
             session: job.session,
         };
-        match self.sessions.place(job.key, job.session) {
-            None => self.passes(alloc, moment),
-            Some(place) => self.work_at(alloc, job, place, service, moment, draw),
-        }
+        let Some(place) = self.sessions.place(job.key, job.session) else {
+            unreachable!()
+        };
+        self.work_at(alloc, job, place, service, moment, draw)
     }
 
     // Runs this ready job, whose session is at this place.
@@ -183,6 +182,8 @@ impl<S: Seal> Server<S> {
         sessions_stand_later();
         sessions_speak_for_themselves::<D>();
         taken_jobs_are_open::<D>();
+        runs_keep_order::<D, V>();
+        is_early(moment);
         let work = Work::at(alloc, &self.jobs, job.k, service)?;
         self.sessions
             .serves(alloc, place, &self.jobs, &work, service)?;

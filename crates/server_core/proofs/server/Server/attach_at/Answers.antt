@@ -24,6 +24,7 @@ use Rattle.server_core.proofs.Attached.{IsThere, attach-gives, attached-name, at
 use Rattle.server_core.proofs.Lists.{place-is}
 use Rattle.server_core.proofs.Places.{can-still, one-of, sound-set}
 use Rattle.server_core.proofs.Speaking.{found-at, kept-later, kept-set, sessions-apart, sessions-have_room}
+use Rattle.server_core.proofs.Steady.{no_keys, sound-of, steady-by}
 use Rattle.server_core.proofs.server.Server.attach_at.Goals as goal
 
 pub lose_spent-requires : goal.lose_spent-requires
@@ -39,36 +40,6 @@ lose_spent-requires g c =
     let long : length c.attach-out.new.self ≡ length standings =
     ap (λ (standings : List SessionState). length standings) (c.attach-out.ensures.others d) ∙ length-set standings c.args.place after in
     omega (arith, at.1)
-
-pub invariant_of-self : goal.invariant_of-self
-invariant_of-self g c =
-    let K : Type 0 = Kept g.row.S.Denot in
-    let name : Name = record { key = c.args.key; session = c.args.session } in
-    let test = is_kept_as name in
-    let place = c.args.place in
-    let standings = c.self.inside.sessions in
-    let placed : Some place ≡ position test standings = sym (ap (λ (kept : K). position test kept.sessions) c.self.view_is ∙ c.requires.place) in
-    let at = place-is test standings place placed in
-    let first = position_or_len test standings in
-    let within : first < length standings = omega (arith, at.0, at.1) in
-    let d = one-of standings place at.1 in
-    let before = get_or standings place d in
-    let after = get_or c.attach-out.new.self place d in
-    let so = nat_lt (numbers_left after) room_min in
-    let ring = g.S.Seal.keys c.self.inside.seal in
-    let lt : c.self.inside.moment ≤ c.args.moment =
-    subst (λ (moment : ℕ). moment ≤ c.args.moment) (sym (ap (λ (kept : K). kept.moment) c.self.view_is)) c.requires.later in
-    let same : name_kept after ≡ name_kept before = c.attach-out.ensures.same_name d in
-    let has : test before ≡ true = ap (λ (n : ℕ). test (get_or standings n d)) (sym at.0) ∙ passes_at_first test standings d within in
-    let is : test after ≡ true = ap (λ (other : Name). is_same name other) same ∙ has in
-    let can : so ≡ false → CanSpeak ring c.args.moment after = λ left.
-    can-still ring c.self.inside.moment c.args.moment before after (c.self.invariant.speaking place d at.1) same (c.attach-out.ensures.at d)
-    (ltb-false (numbers_left after) room_min left) in
-    let sound = sound-set c.sessions_stand_later.ensures.at ring c.self.inside.moment c.args.moment name standings after so lt c.self.invariant within is can in
-    let sessions_are : c.lose_spent.new.sessions ≡ without_kept_where so name (set standings first after) =
-    c.lose_spent.ensures.sessions d
-    ∙ ap (without_kept_where so name) (c.attach-out.ensures.others d ∙ ap (λ (n : ℕ). set standings n after) (sym at.0)) in
-    subst (λ (standings : List SessionState). IsSound ring c.args.moment standings) (sym sessions_are) sound
 
 pub returns-clause-given : goal.returns-clause-given
 returns-clause-given g c = λ keys server stands.
@@ -152,3 +123,40 @@ returns-clause-given g c = λ keys server stands.
     let same : after_attach setting name server c.args.draw.now ≡ answer =
     gives ∙ ap (λ (so : Bool). answer_of setting (lost_where so name (spoken state done))) (sym so_same) in
     subst (λ (answer : Answer D). Gives {S = V} {D = D} lock (g.S.Seal.keys c.args.self.now.seal) kept_now c.attach-out.new.draw effects answer) (sym same) given
+
+pub invariant_of-self : goal.invariant_of-self
+invariant_of-self g c =
+    let K : Type 0 = Kept g.row.S.Denot in
+    let name : Name = record { key = c.args.key; session = c.args.session } in
+    let test = is_kept_as name in
+    let place = c.args.place in
+    let standings = c.self.inside.sessions in
+    let placed : Some place ≡ position test standings = sym (ap (λ (kept : K). position test kept.sessions) c.self.view_is ∙ c.requires.place) in
+    let at = place-is test standings place placed in
+    let first = position_or_len test standings in
+    let within : first < length standings = omega (arith, at.0, at.1) in
+    let d = one-of standings place at.1 in
+    let before = get_or standings place d in
+    let after = get_or c.attach-out.new.self place d in
+    let so = nat_lt (numbers_left after) room_min in
+    let ring = g.S.Seal.keys c.self.inside.seal in
+    let lt : c.self.inside.moment ≤ c.args.moment =
+    subst (λ (moment : ℕ). moment ≤ c.args.moment) (sym (ap (λ (kept : K). kept.moment) c.self.view_is)) c.requires.later in
+    let same : name_kept after ≡ name_kept before = c.attach-out.ensures.same_name d in
+    let has : test before ≡ true = ap (λ (n : ℕ). test (get_or standings n d)) (sym at.0) ∙ passes_at_first test standings d within in
+    let is : test after ≡ true = ap (λ (other : Name). is_same name other) same ∙ has in
+    let can : so ≡ false → CanSpeak ring c.args.moment after = λ left.
+    can-still ring c.self.inside.moment c.args.moment before after (c.self.invariant.speaking place d at.1) same (c.attach-out.ensures.at d)
+    (ltb-false (numbers_left after) room_min left) in
+    let sound = sound-set c.sessions_stand_later.ensures.at ring c.self.inside.moment c.args.moment name standings after so lt (sound-of ring _ c.self.invariant) within is can in
+    let sessions_are : c.lose_spent.new.sessions ≡ without_kept_where so name (set standings first after) =
+    c.lose_spent.ensures.sessions d
+    ∙ ap (without_kept_where so name) (c.attach-out.ensures.others d ∙ ap (λ (n : ℕ). set standings n after) (sym at.0)) in
+    let V : Type 0 = g.row.S.Denot in
+    let D : Type 0 = g.row.D.Denot in
+    let old = c.self.invariant in
+    let setting : Setting D = setting_of c.args.moment g.D.Draw.step no_keys in
+    let given = returns-clause-given g c no_keys old.server (subst (λ (kept : K). Stands kept old.server) c.self.view_is old.stands_for.stands) in
+    steady-by {S = V} ring _ (after_attach setting name old.server c.args.draw.now).server
+    (subst (λ (standings : List SessionState). IsSound ring c.args.moment standings) (sym sessions_are) sound)
+    given.stands (c.events_keep_order.ensures.attach setting name old.server c.args.draw.now c.is_early.ensures old.stands_for.between)

@@ -6,20 +6,11 @@ use Rattle.waits.specs.Jobs.{without_session as without_jobs_of}
 use Rattle.server_rules.specs.Server.{Name, without_session}
 use Rattle.server_session.specs.declared.session.SessionState.{SessionState}
 use Rattle.server_core.specs.Sessions.{AreKept, is_kept_as, without_kept}
-use Rattle.server_core.specs.Server.{CanSpeak, IsSound, Kept, Stands}
+use Rattle.server_core.specs.Server.{CanSpeak, IsSound, Kept, Stands, StandsFor}
+use Rattle.server_rules.specs.Answer.{after_loss}
+use Rattle.server_core.proofs.Steady.{steady-by}
 use Rattle.server_core.proofs.SessionState.{others-kept, same-found}
 use Rattle.server_core.proofs.server.Server.lose.Goals as goal
-
-pub invariant_of-self : goal.invariant_of-self
-invariant_of-self g c =
-    let name : Name = record { key = c.args.key; session = c.args.session } in
-    let keys = g.S.Seal.keys c.self.inside.seal in
-    let P : List SessionState → Type 0 = IsSound keys c.self.inside.moment in
-    let sound : IsSound keys c.self.inside.moment (without_kept name c.self.inside.sessions) = record {
-      few = omega (arith, length-filter_both (λ (standing : SessionState). not (is_kept_as name standing)) (λ (standing : SessionState). not (not (is_kept_as name standing))) (λ standing. refl) c.self.inside.sessions, c.self.invariant.few);
-      speaking = All-filter (λ standing. not (is_kept_as name standing)) (CanSpeak keys c.self.inside.moment) c.self.inside.sessions c.self.invariant.speaking;
-    } in
-    subst P (sym c.take_out.ensures.others) sound
 
 pub returns-clause-found : goal.returns-clause-found
 returns-clause-found g c = λ server is.
@@ -47,3 +38,18 @@ returns-clause-stands g c = λ server is.
       };
       between = c.losses_keep_order.ensures.loss name server is.between;
     }
+
+pub invariant_of-self : goal.invariant_of-self
+invariant_of-self g c =
+    let name : Name = record { key = c.args.key; session = c.args.session } in
+    let keys = g.S.Seal.keys c.self.inside.seal in
+    let P : List SessionState → Type 0 = IsSound keys c.self.inside.moment in
+    let sound : IsSound keys c.self.inside.moment (without_kept name c.self.inside.sessions) = record {
+      few = omega (arith, length-filter_both (λ (standing : SessionState). not (is_kept_as name standing)) (λ (standing : SessionState). not (not (is_kept_as name standing))) (λ standing. refl) c.self.inside.sessions, c.self.invariant.few);
+      speaking = All-filter (λ standing. not (is_kept_as name standing)) (CanSpeak keys c.self.inside.moment) c.self.inside.sessions c.self.invariant.speaking;
+    } in
+    let old = c.self.invariant in
+    let K : Type 0 = Kept g.row.S.Denot in
+    let stands : StandsFor c.args.self.now old.server = subst (λ (kept : K). StandsFor kept old.server) c.self.view_is old.stands_for in
+    let lost = returns-clause-stands g c old.server stands in
+    steady-by {S = g.row.S.Denot} keys _ (after_loss name old.server) (subst P (sym c.take_out.ensures.others) sound) lost.stands lost.between

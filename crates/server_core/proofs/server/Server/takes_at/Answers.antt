@@ -20,13 +20,15 @@ use Rattle.server_core.specs.Effects.{Gives}
 use Rattle.server_core.specs.Failures.{blocked_of}
 use Rattle.server_core.specs.Packets.{Fits, bodies_of, brought, judged_of, kept_so}
 use Rattle.server_core.specs.Room.{dues_in}
-use Rattle.server_core.specs.Server.{IsSound, Kept, Stands}
+use Rattle.ring_rules.specs.Binding.{keys_of}
+use Rattle.server_core.specs.Server.{IsSteady, Kept, Stands}
 use Rattle.server_core.specs.Sessions.{AreApart, is_kept_as}
 use Rattle.server_core.specs.SettlingAll.{AreDue, are_numbered}
 use Rattle.server_core.proofs.HeardLemmas.{back-at, beside-known, can-judged, can-lent, fits-few, heard-blocked, judged-so}
 use Rattle.server_core.proofs.Lists.{place-is}
 use Rattle.server_core.proofs.PacketDues.{are-due, same-numbers}
 use Rattle.server_core.proofs.Speaking.{kept-later, sessions-have_room}
+use Rattle.server_core.proofs.Steady.{sound-of, steady-by}
 use Rattle.server_core.proofs.Taken.{told-few}
 use Rattle.server_core.proofs.server.Server.takes_at.Goals as goal
 
@@ -74,7 +76,7 @@ answers-sessions-requires g c =
       speaking = can-judged ring c.self.inside.moment moment one after can c.in-Ok.ensures.same_name c.in-Ok.ensures.same_numbers c.in-Ok.ensures.at;
       room = c.in-Ok.ensures.room;
       beside =
-          beside-known laws.at ring c.self.inside.moment moment name standings c.hears_known-others.result.0 place after lt c.self.invariant at.1
+          beside-known laws.at ring c.self.inside.moment moment name standings c.hears_known-others.result.0 place after lt (sound-of ring _ c.self.invariant) at.1
           c.hears_known-others.ensures.removed (c.hears_known-others.ensures.others name placed) (c.in-Ok.ensures.same_name ∙ c.hears_known-others.ensures.named name placed);
     }
 
@@ -101,28 +103,6 @@ with_it_at-requires g c =
     ap (λ (others : List SessionState). insert others place after) removed
     ∙ (ap (λ (one : SessionState). insert (remove standings place) place one) c.in-Err.ensures.unchanged_on_memory ∙ back-at standings place one at.1 (c.hears_known-others.ensures.at_place one)) in
     record { place = omega (arith, at.1); apart = subst AreApart (sym is) c.hears_known-others.ensures.sessions_apart }
-
-pub invariant_of-self-in-Err : goal.invariant_of-self-in-Err
-invariant_of-self-in-Err g c =
-    let K : Type 0 = Kept g.row.S.Denot in
-    let laws = c.sessions_stand_later.ensures in
-    let name : Name = record { key = c.args.name.key; session = c.args.name.session } in
-    let place = c.args.place in
-    let moment = c.args.moment in
-    let standings = c.self.inside.sessions in
-    let placed : position (is_kept_as name) standings ≡ Some place = ap (λ (kept : K). position (is_kept_as name) kept.sessions) c.self.view_is ∙ c.requires.place in
-    let at = place-is (is_kept_as name) standings place (sym placed) in
-    let one : SessionState = c.hears_known-others.result.1 in
-    let ring = g.S.Seal.keys c.self.inside.seal in
-    let lt : c.self.inside.moment ≤ moment = subst (λ (old : ℕ). old ≤ moment) (sym (ap (λ (kept : K). kept.moment) c.self.view_is)) c.requires.later in
-    let can = can-lent ring c.self.inside.moment standings place one c.self.invariant.speaking at.1 (c.hears_known-others.ensures.at_place one) in
-    let after : SessionState = c.judges_in_room.new.standing in
-    let others = c.hears_known-others.result.0 in
-    let removed : others ≡ remove standings place = c.hears_known-others.ensures.removed in
-    let is : insert others place after ≡ standings =
-    ap (λ (others : List SessionState). insert others place after) removed
-    ∙ (ap (λ (one : SessionState). insert (remove standings place) place one) c.in-Err.ensures.unchanged_on_memory ∙ back-at standings place one at.1 (c.hears_known-others.ensures.at_place one)) in
-    subst (λ (standings : List SessionState). IsSound ring c.self.inside.moment standings) (sym (c.with_it_at.ensures ∙ is)) c.self.invariant
 
 pub returns-in-Err-clause-unchanged_on_memory : goal.returns-in-Err-clause-unchanged_on_memory
 returns-in-Err-clause-unchanged_on_memory g c =
@@ -215,3 +195,22 @@ returns-in-Ok-clause-given g c = λ keys server of stands order.
     (ended_among setting (takes_among setting envelope heard)) in
     let G : Answer D → Type 0 = λ answer. Gives {S = V} {D = D} lock (g.S.Seal.keys c.args.self.now.seal) kept_now c.answers-sessions.new.draw c.answers-sessions.result.1 answer in
     subst G (sym same) (subst R same_ring given)
+
+pub invariant_of-self-in-Err : goal.invariant_of-self-in-Err
+invariant_of-self-in-Err g c =
+    let K : Type 0 = Kept g.row.S.Denot in
+    subst (λ (kept : K). IsSteady (g.S.Seal.keys c.self.inside.seal) kept) (c.self.view_is ∙ sym (returns-in-Err-clause-unchanged_on_memory g c)) c.self.invariant
+
+pub invariant_of-self : goal.invariant_of-self
+invariant_of-self g c =
+    let V : Type 0 = g.row.S.Denot in
+    let D : Type 0 = g.row.D.Denot in
+    let K : Type 0 = Kept V in
+    let old = c.self.invariant in
+    let ring = g.S.Seal.keys c.args.self.now.seal in
+    let keys = keys_of ring in
+    let setting : Setting D = setting_of c.args.moment g.D.Draw.step keys in
+    let envelope : Envelope = brought c.args.name.key c.args.name.session c.args.outer.now in
+    let given = returns-in-Ok-clause-given g c keys old.server (c.rings_have_keys.ensures ring) (subst (λ (kept : K). Stands kept old.server) c.self.view_is old.stands_for.stands) old.stands_for.between.order in
+    steady-by {S = V} (g.S.Seal.keys c.self.inside.seal) _ (after_packet setting envelope old.server c.args.draw.now).server c.answers-sessions.ensures.sound
+    given.stands (c.events_keep_order.ensures.packet setting envelope old.server c.args.draw.now c.is_early.ensures old.stands_for.between)

@@ -22,6 +22,7 @@ use Rattle.server_core.specs.Effects.{Gives}
 use Rattle.server_core.specs.Failures.{blocked_of}
 use Rattle.server_core.specs.Packets.{Fits, bodies_of, brought, judged_of, kept_so}
 use Rattle.server_core.specs.Room.{CanTake, dues_in}
+use Rattle.ring_rules.specs.Binding.{keys_of}
 use Rattle.server_core.specs.Server.{CanSpeak, Kept, Stands}
 use Rattle.server_core.specs.Sessions.{is_kept_as}
 use Rattle.server_core.specs.SettlingAll.{AreDue, are_numbered}
@@ -30,6 +31,7 @@ use Rattle.server_core.proofs.Lists.{no-place}
 use Rattle.server_core.proofs.Names.{name-by}
 use Rattle.server_core.proofs.PacketDues.{are-due, same-numbers}
 use Rattle.server_core.proofs.Speaking.{kept-later, none-at, sessions-have_room}
+use Rattle.server_core.proofs.Steady.{sound-of, steady-by}
 use Rattle.server_core.proofs.Taken.{told-few}
 use Rattle.server_core.proofs.server.Server.takes_new.Goals as goal
 
@@ -60,7 +62,7 @@ answers-sessions-requires g c =
       speaking = can-judged ring moment moment one after can c.in_ok-both.ensures.same_name c.in_ok-both.ensures.same_numbers c.in_ok-both.ensures.at;
       room = subst J (sym c.in_ok-others.ensures.same_job_room) c.in_ok-both.ensures.room;
       beside =
-          beside-new laws.at ring c.self.inside.moment moment name standings c.in_ok-others.others after lt c.self.invariant outside
+          beside-new laws.at ring c.self.inside.moment moment name standings c.in_ok-others.others after lt (sound-of ring _ c.self.invariant) outside
           c.in_ok-others.ensures.others (c.in_ok-both.ensures.same_name ∙ named_so);
     }
 
@@ -160,3 +162,17 @@ returns-clause-given g c = λ keys server of stands order.
     (ended_among setting (takes_among setting envelope heard)) in
     let G : Answer D → Type 0 = λ answer. Gives {S = V} {D = D} lock (g.S.Seal.keys c.args.self.now.seal) kept_now c.answers-sessions.new.draw c.answers-sessions.result.1 answer in
     subst G (sym same) (subst R same_ring given)
+
+pub invariant_of-self-2 : goal.invariant_of-self-2
+invariant_of-self-2 g c =
+    let V : Type 0 = g.row.S.Denot in
+    let D : Type 0 = g.row.D.Denot in
+    let K : Type 0 = Kept V in
+    let old = c.self.invariant in
+    let ring = g.S.Seal.keys c.args.self.now.seal in
+    let keys = keys_of ring in
+    let setting : Setting D = setting_of c.args.moment g.D.Draw.step keys in
+    let envelope : Envelope = brought c.args.name.key c.args.name.session c.args.outer.now in
+    let given = returns-clause-given g c keys old.server (c.rings_have_keys.ensures ring) (subst (λ (kept : K). Stands kept old.server) c.self.view_is old.stands_for.stands) old.stands_for.between.order in
+    steady-by {S = V} (g.S.Seal.keys c.self.inside.seal) _ (after_packet setting envelope old.server c.args.draw.now).server c.answers-sessions.ensures.sound
+    given.stands (c.events_keep_order.ensures.packet setting envelope old.server c.args.draw.now c.is_early.ensures old.stands_for.between)

@@ -19,6 +19,7 @@ use Rattle.server_core.specs.Server.{Kept, Stands}
 use Rattle.server_core.proofs.Speaking.{kept-later}
 use Rattle.server_core.proofs.TickStart.{can-here, here-speaking, here-with, reserved-all, sending-starts, speaking-here, spent-rest, tick-room, tick-starts}
 use Rattle.server_core.proofs.TickTurnSteps.{can-send}
+use Rattle.server_core.proofs.Steady.{no_keys, steady-by}
 use Rattle.server_core.proofs.server.Server.ticks_due.Goals as goal
 
 pub answers_all-requires-clause-voices : goal.answers_all-requires-clause-voices
@@ -50,27 +51,6 @@ sends-requires-clause-sendable g c =
     let here_after = reserved-all (IsHere ring moment) (here-with ring moment) standings voices after c.in_ok-voices.ensures.fresh.long reserved here in
     let two = c.answers_all.new in
     can-send ring moment two.sessions two.self.list.items two.self.order.items two.self.entries.room c.answers_all.ensures.voices (c.answers_all.ensures.here ring here_after)
-
-pub invariant_of-self-2 : goal.invariant_of-self-2
-invariant_of-self-2 g c =
-    let moment = c.args.moment in
-    let ring = g.S.Seal.keys c.self.inside.seal in
-    let sent = c.sends.new in
-    let here = c.lose_all_spent.ensures.here ring moment (can-here ring moment sent.sessions sent.self.list.items c.sends.ensures.sendable) in
-    let standings = c.self.inside.sessions in
-    let after = c.reserves.new.sessions in
-    let voices = c.in_ok-voices.voices.list.items in
-    let reserved : AreReserved 0 standings voices after =
-    subst (λ (voices : List TickTurn). AreReserved 0 standings voices after) c.deref.ensures.value c.in_ok-reserves.ensures.reserved in
-    let long = reserved.long in
-    let answered = c.answers_all.ensures.same_count in
-    let out = c.sends.ensures.same_count in
-    let fewer = c.lose_all_spent.ensures.fewer in
-    let few = c.self.invariant.few in
-    record {
-      few = omega arith;
-      speaking = here-speaking ring moment c.lose_all_spent.new.sessions here c.lose_all_spent.ensures.left;
-    }
 
 pub returns-clause-given : goal.returns-clause-given
 returns-clause-given g c = λ keys server stands order.
@@ -139,3 +119,64 @@ returns-clause-given g c = λ keys server stands order.
     } in
     let same : after_tick setting server draw ≡ answer = ap (λ (state : State D). answer_of setting (without_spent state)) (sym all) in
     subst (λ (answer : Answer D). Gives {S = V} {D = D} lock (g.S.Seal.keys c.args.self.now.seal) kept_now c.sends.new.draw effects answer) (sym same) given
+
+pub invariant_of-self-2 : goal.invariant_of-self-2
+invariant_of-self-2 g c =
+    let moment = c.args.moment in
+    let ring = g.S.Seal.keys c.self.inside.seal in
+    let sent = c.sends.new in
+    let here = c.lose_all_spent.ensures.here ring moment (can-here ring moment sent.sessions sent.self.list.items c.sends.ensures.sendable) in
+    let standings = c.self.inside.sessions in
+    let after = c.reserves.new.sessions in
+    let voices = c.in_ok-voices.voices.list.items in
+    let reserved : AreReserved 0 standings voices after =
+    subst (λ (voices : List TickTurn). AreReserved 0 standings voices after) c.deref.ensures.value c.in_ok-reserves.ensures.reserved in
+    let long = reserved.long in
+    let answered = c.answers_all.ensures.same_count in
+    let out = c.sends.ensures.same_count in
+    let fewer = c.lose_all_spent.ensures.fewer in
+    let few = c.self.invariant.few in
+    let V : Type 0 = g.row.S.Denot in
+    let D : Type 0 = g.row.D.Denot in
+    let K : Type 0 = Kept V in
+    let old = c.self.invariant in
+    let setting : Setting D = setting_of moment g.D.Draw.step no_keys in
+    let given = returns-clause-given g c no_keys old.server (subst (λ (kept : K). Stands kept old.server) c.self.view_is old.stands_for.stands) old.stands_for.between.order in
+    steady-by {S = V} ring _ (after_tick setting old.server c.args.draw.now).server
+    (record {
+      few = omega arith;
+      speaking = here-speaking ring moment c.lose_all_spent.new.sessions here c.lose_all_spent.ensures.left;
+    })
+    given.stands (c.events_keep_order.ensures.tick setting old.server c.args.draw.now c.is_early.ensures old.stands_for.between)
+
+pub answers_all-requires-clause-tick : goal.answers_all-requires-clause-tick
+answers_all-requires-clause-tick g c =
+    let V : Type 0 = g.row.S.Denot in
+    let D : Type 0 = g.row.D.Denot in
+    let K : Type 0 = Kept V in
+    let moment = c.args.moment in
+    let draw = c.args.draw.now in
+    let old = c.self.invariant in
+    let server = old.server in
+    let inside = old.stands_for.stands in
+    let lt : c.self.inside.moment ≤ moment =
+    subst (λ (old : ℕ). old ≤ moment) (sym (ap (λ (kept : K). kept.moment) c.self.view_is)) c.requires.later in
+    let standings = c.self.inside.sessions in
+    let after = c.reserves.new.sessions in
+    let voices = c.in_ok-voices.voices.list.items in
+    let made = c.in_ok-voices.voices.entries.entries in
+    let bound = c.self.inside.bindings.bindings in
+    let are = kept-later c.sessions_stand_later.ensures.later c.self.inside.moment moment standings server.sessions lt inside.sessions in
+    let reserved : AreReserved 0 standings voices after =
+    subst (λ (voices : List TickTurn). AreReserved 0 standings voices after) c.deref.ensures.value c.in_ok-reserves.ensures.reserved in
+    let fresh : AreFresh moment server.jobs standings voices =
+    subst (λ (jobs : Queue). AreFresh moment jobs standings voices) inside.jobs c.in_ok-voices.ensures.fresh in
+    let none : made ≡ [] = ap (λ (held : Held). held.entries) c.in_ok-voices.ensures.entries in
+    let starts = tick-starts {S = D} moment standings after voices bound draw server made fresh reserved are old.stands_for.between.order inside.bindings none in
+    record {
+      bound = bound;
+      draw = draw;
+      state = begun server draw;
+      is = subst (λ (order : List ℕ). IsInTick moment after voices order made c.self.inside.jobs.jobs bound draw (begun server draw)) (sym c.in_ok-voices.ensures.order)
+          (subst (λ (jobs : Queue). IsInTick moment after voices [] made jobs bound draw (begun server draw)) (sym inside.jobs) starts);
+    }

@@ -12,7 +12,7 @@ use Rattle.server_core.specs.declared.effects.Effects.{Effects}
 use Rattle.server_core.specs.Desks.{IsShortRunAt}
 use Rattle.server_core.specs.Effects.{Gives}
 use Rattle.server_core.specs.Sessions.{is_kept_as}
-use Rattle.server_core.specs.Server.{Kept, Stands}
+use Rattle.server_core.specs.Server.{Kept}
 use Rattle.server_core.proofs.Desked.{does-where}
 use Rattle.server_core.proofs.Lists.{no-place}
 use Rattle.server_core.proofs.Speaking.{none-at}
@@ -20,54 +20,27 @@ use Rattle.server_core.proofs.Worked.{ready-stands}
 use Rattle.server_core.proofs.Outcomes.{on-ok-each}
 use Rattle.server_core.proofs.server.Server.work.Goals as goal
 
-pub returns-in-None-clause-given : goal.returns-in-None-clause-given
-returns-in-None-clause-given g c = λ keys server is.
-    let stands = is.stands in
-    let order = is.between.order in
-    let K : Type 0 = Kept g.row.S.Denot in
+-- the session of a ready job is there
+pub unreachable-requires : goal.unreachable-requires
+unreachable-requires g c =
     let job : Job = c.ready_at-job.result.now in
     let name : Name = record { key = job.key; session = job.session } in
-    let inside = subst (λ (kept : K). Stands kept server) (sym c.self.view_is) stands in
+    let old = c.self.invariant in
+    let inside = old.stands_for.stands in
     let standings = c.self.inside.sessions in
-    let none = none-at c.sessions_stand_later.ensures.name c.self.inside.moment name standings server.sessions inside.sessions
-    (no-place (is_kept_as name) standings c.in-None.ensures) in
-    absurd (ready-stands server c.args.k job order (ap (ready_job c.args.k) (sym inside.jobs) ∙ c.ready_at-job.ensures) none)
+    let none = none-at c.sessions_stand_later.ensures.name c.self.inside.moment name standings old.server.sessions inside.sessions
+    (no-place (is_kept_as name) standings c.in_default.ensures) in
+    ready-stands old.server c.args.k job old.stands_for.between.order (ap (ready_job c.args.k) (sym inside.jobs) ∙ c.ready_at-job.ensures) none
 
-pub returns-in-None-clause-served : goal.returns-in-None-clause-served
-returns-in-None-clause-served g c = λ keys server is.
-    let stands = is.stands in
-    let order = is.between.order in
-    let K : Type 0 = Kept g.row.S.Denot in
-    let job : Job = c.ready_at-job.result.now in
-    let name : Name = record { key = job.key; session = job.session } in
-    let inside = subst (λ (kept : K). Stands kept server) (sym c.self.view_is) stands in
-    let standings = c.self.inside.sessions in
-    let none = none-at c.sessions_stand_later.ensures.name c.self.inside.moment name standings server.sessions inside.sessions
-    (no-place (is_kept_as name) standings c.in-None.ensures) in
-    absurd (ready-stands server c.args.k job order (ap (ready_job c.args.k) (sym inside.jobs) ∙ c.ready_at-job.ensures) none)
-
-pub returns-in-None-clause-short : goal.returns-in-None-clause-short
-returns-in-None-clause-short g c = λ server is.
-    let stands = is.stands in
-    let order = is.between.order in
-    let K : Type 0 = Kept g.row.S.Denot in
-    let job : Job = c.ready_at-job.result.now in
-    let name : Name = record { key = job.key; session = job.session } in
-    let inside = subst (λ (kept : K). Stands kept server) (sym c.self.view_is) stands in
-    let standings = c.self.inside.sessions in
-    let none = none-at c.sessions_stand_later.ensures.name c.self.inside.moment name standings server.sessions inside.sessions
-    (no-place (is_kept_as name) standings c.in-None.ensures) in
-    absurd (ready-stands server c.args.k job order (ap (ready_job c.args.k) (sym inside.jobs) ∙ c.ready_at-job.ensures) none)
-
-pub returns-in-Some-clause-short : goal.returns-in-Some-clause-short
-returns-in-Some-clause-short g c = λ server is.
+pub returns-clause-short : goal.returns-clause-short
+returns-clause-short g c = λ server is.
     let stands = is.stands in
     let reply : Job → List ℕ = λ job. (g.V.Service.step c.args.service.now job.request).0 in
     on-ok-each (λ job. ready_job c.args.k server.jobs ≡ Some job) (λ job. length (reply job) ≤ reply_bytes_max) c.work_at.result
     (λ job ready. c.work_at.ensures.short job (ap (ready_job c.args.k) stands.jobs ∙ ready))
 
-pub returns-in-Some-clause-given : goal.returns-in-Some-clause-given
-returns-in-Some-clause-given g c = λ keys server is.
+pub returns-clause-given : goal.returns-clause-given
+returns-clause-given g c = λ keys server is.
     let K : Type 0 = Kept g.row.S.Denot in
     let D : Type 0 = g.row.D.Denot in
     let lock = g.S.Seal.lock in
@@ -81,7 +54,7 @@ returns-in-Some-clause-given g c = λ keys server is.
     let early : setting.now ≤ latest_moment = subst (λ (at : ℕ). at ≤ latest_moment) moment c.is_early.ensures in
     does-where g.row.S.Denot D (IsShortRunAt c.args.k serve service server) lock ring c.work_at.new.self c.work_at.new.draw (λ (effects : Effects). effects)
     (after_work setting c.args.k serve service server draw).0 c.work_at.result
-    (returns-in-Some-clause-short g c server is)
+    (returns-clause-short g c server is)
     (λ short. c.runs_keep_order.ensures setting c.args.k serve service server draw early short is.between)
     (subst (λ (now : ℕ). IfOk c.work_at.result (λ effects. Gives {S = g.row.S.Denot} {D = D} lock ring
     c.work_at.new.self c.work_at.new.draw effects (after_work (setting_of now g.D.Draw.step keys) c.args.k serve service server draw).0))

@@ -5,6 +5,7 @@ use Rattle.std.proofs.lemmas.Bool.{ltb-false}
 use Rattle.std.proofs.lemmas.List.{length-set, set-set}
 use Rattle.std.proofs.lemmas.List.Sums.{passes_at_first}
 use Rattle.server_output.specs.Outs.{AreSent}
+use Rattle.regs_service.specs.Served.{reply_bytes_max}
 use Rattle.auth_keys.specs.declared.ring.RingKey.{RingKey}
 use Rattle.waits.specs.declared.job.Job.{Job}
 use Rattle.waits.specs.Jobs.{ready_count, ready_job}
@@ -30,6 +31,7 @@ use Rattle.server_core.proofs.Places.{can-still, one-of, sound-set}
 use Rattle.server_core.proofs.Rooms.{stands-with}
 use Rattle.server_core.proofs.Speaking.{found-at, kept-later, kept-set, sessions-apart, sessions-have_room}
 use Rattle.server_core.proofs.Worked.{IsRun, is-running, ready-there, without_its, work-gives, worked-bindings, worked-name}
+use Rattle.server_core.proofs.Steady.{no_keys, sound-of, steady-by}
 use Rattle.server_core.proofs.server.Server.work_at.Goals as goal
 
 -- a place that is set twice has the later one
@@ -49,36 +51,6 @@ lose_spent-requires g c =
     let long : length c.works-effects.new.self ≡ length standings =
     ap (λ (standings : List SessionState). length standings) (c.works-effects.ensures.others d ∙ set-twice standings c.serves.new.self c.args.place (get_or c.serves.new.self c.args.place d) after (c.serves.ensures.others d)) ∙ length-set standings c.args.place after in
     omega (arith, at.1)
-
-pub invariant_of-self-2 : goal.invariant_of-self-2
-invariant_of-self-2 g c =
-    let K : Type 0 = Kept g.row.S.Denot in
-    let name : Name = record { key = c.args.job.key; session = c.args.job.session } in
-    let test = is_kept_as name in
-    let place = c.args.place in
-    let standings = c.self.inside.sessions in
-    let placed : Some place ≡ position test standings = sym (ap (λ (kept : K). position test kept.sessions) c.self.view_is ∙ c.requires.place) in
-    let at = place-is test standings place placed in
-    let first = position_or_len test standings in
-    let within : first < length standings = omega (arith, at.0, at.1) in
-    let d = one-of standings place at.1 in
-    let before = get_or standings place d in
-    let after = get_or c.works-effects.new.self place d in
-    let so = nat_lt (numbers_left after) room_min in
-    let ring = g.S.Seal.keys c.self.inside.seal in
-    let lt : c.self.inside.moment ≤ c.args.moment =
-    subst (λ (moment : ℕ). moment ≤ c.args.moment) (sym (ap (λ (kept : K). kept.moment) c.self.view_is)) c.requires.later in
-    let same : name_kept after ≡ name_kept before = c.works-effects.ensures.same_name d ∙ ap name_kept (c.in_ok-serves.ensures.kept d) in
-    let has : test before ≡ true = ap (λ (n : ℕ). test (get_or standings n d)) (sym at.0) ∙ passes_at_first test standings d within in
-    let is : test after ≡ true = ap (λ (other : Name). is_same name other) same ∙ has in
-    let can : so ≡ false → CanSpeak ring c.args.moment after = λ left.
-    can-still ring c.self.inside.moment c.args.moment before after (c.self.invariant.speaking place d at.1) same (c.works-effects.ensures.at d)
-    (ltb-false (numbers_left after) room_min left) in
-    let sound = sound-set c.sessions_stand_later.ensures.at ring c.self.inside.moment c.args.moment name standings after so lt c.self.invariant within is can in
-    let sessions_are : c.lose_spent.new.sessions ≡ without_kept_where so name (set standings first after) =
-    c.lose_spent.ensures.sessions d
-    ∙ ap (without_kept_where so name) (c.works-effects.ensures.others d ∙ (set-twice standings c.serves.new.self place (get_or c.serves.new.self place d) after (c.serves.ensures.others d) ∙ ap (λ (n : ℕ). set standings n after) (sym at.0))) in
-    subst (λ (standings : List SessionState). IsSound ring c.args.moment standings) (sym sessions_are) sound
 
 pub returns-clause-given : goal.returns-clause-given
 returns-clause-given g c = λ keys server stands order.
@@ -227,3 +199,50 @@ works-effects-requires-clause-place g c =
     let long : length c.serves.new.self ≡ length standings =
     ap (λ (standings : List SessionState). length standings) (c.serves.ensures.others d) ∙ length-set standings place (get_or c.serves.new.self place d) in
     omega (arith, at.1)
+
+pub returns-clause-short : goal.returns-clause-short
+returns-clause-short g c = λ job ready.
+    let K : Type 0 = Kept g.row.S.Denot in
+    let inside_ready = ap (λ (kept : K). ready_job c.args.job.k kept.jobs) c.self.view_is ∙ ready in
+    subst (λ (reply : List ℕ). length reply ≤ reply_bytes_max) (c.in_ok-work.ensures.reply job inside_ready) c.in_ok-work.ensures.room.short
+
+pub invariant_of-self-2 : goal.invariant_of-self-2
+invariant_of-self-2 g c =
+    let K : Type 0 = Kept g.row.S.Denot in
+    let name : Name = record { key = c.args.job.key; session = c.args.job.session } in
+    let test = is_kept_as name in
+    let place = c.args.place in
+    let standings = c.self.inside.sessions in
+    let placed : Some place ≡ position test standings = sym (ap (λ (kept : K). position test kept.sessions) c.self.view_is ∙ c.requires.place) in
+    let at = place-is test standings place placed in
+    let first = position_or_len test standings in
+    let within : first < length standings = omega (arith, at.0, at.1) in
+    let d = one-of standings place at.1 in
+    let before = get_or standings place d in
+    let after = get_or c.works-effects.new.self place d in
+    let so = nat_lt (numbers_left after) room_min in
+    let ring = g.S.Seal.keys c.self.inside.seal in
+    let lt : c.self.inside.moment ≤ c.args.moment =
+    subst (λ (moment : ℕ). moment ≤ c.args.moment) (sym (ap (λ (kept : K). kept.moment) c.self.view_is)) c.requires.later in
+    let same : name_kept after ≡ name_kept before = c.works-effects.ensures.same_name d ∙ ap name_kept (c.in_ok-serves.ensures.kept d) in
+    let has : test before ≡ true = ap (λ (n : ℕ). test (get_or standings n d)) (sym at.0) ∙ passes_at_first test standings d within in
+    let is : test after ≡ true = ap (λ (other : Name). is_same name other) same ∙ has in
+    let can : so ≡ false → CanSpeak ring c.args.moment after = λ left.
+    can-still ring c.self.inside.moment c.args.moment before after (c.self.invariant.speaking place d at.1) same (c.works-effects.ensures.at d)
+    (ltb-false (numbers_left after) room_min left) in
+    let sound = sound-set c.sessions_stand_later.ensures.at ring c.self.inside.moment c.args.moment name standings after so lt (sound-of ring _ c.self.invariant) within is can in
+    let sessions_are : c.lose_spent.new.sessions ≡ without_kept_where so name (set standings first after) =
+    c.lose_spent.ensures.sessions d
+    ∙ ap (without_kept_where so name) (c.works-effects.ensures.others d ∙ (set-twice standings c.serves.new.self place (get_or c.serves.new.self place d) after (c.serves.ensures.others d) ∙ ap (λ (n : ℕ). set standings n after) (sym at.0))) in
+    let V : Type 0 = g.row.S.Denot in
+    let D : Type 0 = g.row.D.Denot in
+    let W : Type 0 = g.row.V.Denot in
+    let old = c.self.invariant in
+    let serve = g.V.Service.step in
+    let setting : Setting D = setting_of c.args.moment g.D.Draw.step no_keys in
+    let stands = subst (λ (kept : K). Stands kept old.server) c.self.view_is old.stands_for.stands in
+    let given = returns-clause-given g c no_keys old.server stands old.stands_for.between.order in
+    let short = λ (job : Job) (ready : ready_job c.args.job.k old.server.jobs ≡ Some job). returns-clause-short g c job (ap (ready_job c.args.job.k) stands.jobs ∙ ready) in
+    steady-by {S = V} ring _ (after_work setting c.args.job.k serve c.args.service.now old.server c.args.draw.now).0.server
+    (subst (λ (standings : List SessionState). IsSound ring c.args.moment standings) (sym sessions_are) sound)
+    given.stands (c.runs_keep_order.ensures setting c.args.job.k serve c.args.service.now old.server c.args.draw.now c.is_early.ensures short old.stands_for.between)

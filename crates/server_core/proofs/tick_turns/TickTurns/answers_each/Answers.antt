@@ -10,6 +10,7 @@ pub loop-step-init : goal.loop-step-init
 loop-step-init g c = record {
   voices = c.requires.voices;
   capacity = c.requires.capacity;
+  tick = c.requires.tick;
   count = refl;
   here = λ ring all. all;
   ticks = λ keys bindings draw start is. record { state = start; left = length c.args.jobs.now.jobs; rest = omega arith; is = is; same = refl };
@@ -33,6 +34,7 @@ loop-step-preserved g c =
     record {
       voices = c.answers_next.ensures.voices;
       capacity = c.answers_next.ensures.capacity;
+      tick = c.answers_next.ensures.tick;
       count = c.answers_next.ensures.same_count ∙ so.count;
       here = λ ring all. c.answers_next.ensures.here ring (so.here ring all);
       ticks = λ keys bindings draw start tick.

@@ -14,6 +14,7 @@ use Rattle.server_core.proofs.Lists.{no-place}
 use Rattle.server_core.proofs.Names.{named}
 use Rattle.server_core.proofs.Quiet.{first-same, none-out}
 use Rattle.server_core.proofs.Speaking.{none-at}
+use Rattle.server_core.proofs.Steady.{no_keys}
 use Rattle.server_core.proofs.TickSteps.{owner-stands}
 use Rattle.server_core.proofs.tick_turns.TickTurns.answers_next.Goals as goal
 
@@ -34,8 +35,8 @@ returns-in_default-clause-ticks g c = λ keys bindings draw state tick.
     (subst (λ (state : State D). IsInTick now c.args.sessions.now c.args.self.now.list.items c.args.self.now.order.items c.args.self.now.entries.entries queue bindings draw state)
     (sym same) tick)
 
-pub returns-in-Some-place-clause-ticks : goal.returns-in-Some-place-clause-ticks
-returns-in-Some-place-clause-ticks g c = λ keys bindings draw state tick.
+pub returns-clause-ticks : goal.returns-clause-ticks
+returns-clause-ticks g c = λ keys bindings draw state tick.
     let D : Type 0 = g.row.D.Denot in
     let now = c.args.now in
     let setting : Setting D = setting_of now g.D.Draw.step keys in
@@ -55,13 +56,39 @@ returns-in-Some-place-clause-ticks g c = λ keys bindings draw state tick.
     subst (λ (state : State D). IsInTick now c.answers.new.sessions c.answers.new.self.list.items c.answers.new.self.order.items c.answers.new.self.entries.entries
     c.answers.new.jobs.jobs bindings draw state) same done
 
-pub returns-in_default-place-clause-ticks : goal.returns-in_default-place-clause-ticks
-returns-in_default-place-clause-ticks g c = λ keys bindings draw state tick.
+-- the session of a job is there
+pub unreachable-requires : goal.unreachable-requires
+unreachable-requires g c =
+    let tick = c.requires.tick in
+    let state = tick.state in
     let test = test_of c.args.now c.args.cause in
     let job : Job = c.in-Some.job in
     let name : Name = named job.key job.session in
     let found : first_job test c.args.jobs.now.jobs ≡ Some job = sym c.take.ensures.job ∙ c.in-Some.is in
-    let is : first_job test state.jobs ≡ Some job = ap (first_job test) (sym tick.jobs) ∙ found in
-    let none = none-at c.sessions_stand_later.ensures.name c.args.now name c.args.sessions.now state.sessions tick.kept
+    let is : first_job test state.jobs ≡ Some job = ap (first_job test) (sym tick.is.jobs) ∙ found in
+    let none = none-at c.sessions_stand_later.ensures.name c.args.now name c.args.sessions.now state.sessions tick.is.kept
     (no-place (is_kept_as name) c.args.sessions.now (sym c.in_default-place.is ∙ c.place.ensures)) in
-    absurd (owner-stands state.sessions state.jobs test job tick.in_order is none)
+    owner-stands state.sessions state.jobs test job tick.is.in_order is none
+
+-- there is an event still
+pub returns-in_default-clause-tick : goal.returns-in_default-clause-tick
+returns-in_default-clause-tick g c =
+    let tick = c.requires.tick in
+    let setting : Setting g.row.D.Denot = setting_of c.args.now g.D.Draw.step no_keys in
+    record {
+      bound = tick.bound;
+      draw = tick.draw;
+      state = first_given_up setting (content_for c.args.cause) (first_for c.args.now c.args.cause) tick.state;
+      is = returns-in_default-clause-ticks g c no_keys tick.bound tick.draw tick.state tick.is;
+    }
+
+pub returns-clause-tick : goal.returns-clause-tick
+returns-clause-tick g c =
+    let tick = c.requires.tick in
+    let setting : Setting g.row.D.Denot = setting_of c.args.now g.D.Draw.step no_keys in
+    record {
+      bound = tick.bound;
+      draw = tick.draw;
+      state = first_given_up setting (content_for c.args.cause) (first_for c.args.now c.args.cause) tick.state;
+      is = returns-clause-ticks g c no_keys tick.bound tick.draw tick.state tick.is;
+    }
