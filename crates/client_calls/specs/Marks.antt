@@ -21,3 +21,8 @@ table_told table (number, byte) = if goes_again byte then table_alone table numb
 -- a state for each number
 abbrev pub table_states : List ℕ → List ℕ → Table → Table
 table_states numbers info table = if length info == length numbers then fold table_told table (zip numbers info) else table
+
+-- those in a packet that is remembered
+abbrev pub table_inner : Option (List ℕ) → Table → Table
+table_inner None table = table
+table_inner (Some numbers) table = fold table_alone table numbers

@@ -1,4 +1,4 @@
--- What becomes of all calls of a table by one rule, and of what is kept of them.
+-- What becomes of all calls of a table by one rule; and, as scaffolding and no promise, of what is kept of them.
 use Rattle.std.specs.Prelude.{ℕ, Bool, if◌then◌else◌, Option, Some, None, map}
 use Rattle.call_table.specs.declared.call.Fate.{Fate}
 use Rattle.call_table.specs.declared.row.Progress.{Progress}
@@ -23,7 +23,8 @@ call_by rule call = settled_if (fate_by rule call) call
 abbrev pub table_by : Rule → Table → Table
 table_by rule table = record table { calls = map (call_by rule) table.calls }
 
--- and of what is kept of it
+-- ---- scaffolding: what it says of what is kept of a call
+
 abbrev pub fate_learnt_in : Bool → ℕ → Progress → Option Fate
 fate_learnt_in is_first salt (progress.Sent living under) = fate_under is_first salt under
 fate_learnt_in is_first salt other = None

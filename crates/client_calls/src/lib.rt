@@ -1,6 +1,7 @@
-//! What becomes of a client's calls: by an answer, by what a server tells of messages, and of all of them at once where a
-//! session is lost, left or ended. Each function is a step of the definition in `client_rules`, on the table for which the
-//! calls stand, and keeps them sound (`specs/Sound.antt`), so that each can be sent.
+//! What becomes of a client's calls: by an answer, by what a server tells of messages, where a connection is opened, and of
+//! all of them at once where a session is lost, left or ended. Each function changes the table for which the calls stand as
+//! `specs/` says, and keeps them sound (`specs/Sound.antt`), so that each can be sent. That these changes are the steps of
+//! the definition in `client_rules` is shown where a client makes them, in `client_core`.
 #![tactic(auto)]
 
 mod answering;

@@ -6,7 +6,7 @@ ghost use Rattle.call_table.specs.Kept.{Stands as StandsFor, state_in};
 ghost use Rattle.call_table.specs.Table.{IsGiven, Sent, Table, inner_of, with_call};
 ghost use Rattle.client_rules.specs.Asking.{alone, alone_if_sent};
 ghost use Rattle.client_rules.specs.Taking.{goes_again};
-ghost use Rattle.client_calls.specs.Marks.{table_alone, table_states, table_told};
+ghost use Rattle.client_calls.specs.Marks.{table_alone, table_inner, table_states, table_told};
 ghost use Rattle.client_calls.specs.Sound.{AreSound};
 
 use call_table::{CallNo, Calls, Flags, Group};
@@ -114,9 +114,9 @@ fn inner_at(calls: &Calls, about: u64, k: usize) -> Option<u64>
     inner.ids().get(k).copied()
 }
 
-/// The calls that are outstanding under so many message identifiers of those in the packet that is remembered under this
-/// one are to be sent again, alone.
-pub fn mark_inner(calls: &mut Calls, about: u64, count: usize)
+/// The calls that are outstanding under so many numbers of those in the packet that is remembered under this one are to be
+/// sent again.
+fn mark_first(calls: &mut Calls, about: u64, count: usize)
     ensures stands { (table : Table) → StandsFor calls.old table → (numbers : List ℕ) → inner_of about table.packets ≡ Some numbers → length numbers ≡ count → StandsFor calls.new (fold table_alone table numbers) }
     ensures sound { (last : ℕ) → AreSound last calls.old.rows → AreSound last calls.new.rows }
 {
@@ -124,5 +124,17 @@ pub fn mark_inner(calls: &mut Calls, about: u64, count: usize)
         if let Some(number) = inner_at(calls, about, place) {
             mark_number(calls, number);
         }
+    }
+}
+
+/// The calls that are outstanding under the message identifiers in the packet that is remembered under this one are to be
+/// sent again, alone. Where no packet is remembered under it, none is.
+pub fn mark_inner(calls: &mut Calls, about: u64)
+    ensures stands { (table : Table) → StandsFor calls.old table → StandsFor calls.new (table_inner (inner_of about table.packets) table) }
+    ensures sound { (last : ℕ) → AreSound last calls.old.rows → AreSound last calls.new.rows }
+{
+    if let Some(inner) = calls.inner(about) {
+        let count = inner.ids().len();
+        mark_first(calls, about, count);
     }
 }

@@ -56,10 +56,8 @@ impl Core {
         let Some(inner) = self.calls.inner(about) else {
             return false;
         };
-        let numbers = inner.ids();
-        let count = numbers.len();
-        mark_binding(&mut self.temporary, numbers);
-        mark_inner(&mut self.calls, about, count);
+        mark_binding(&mut self.temporary, inner.ids());
+        mark_inner(&mut self.calls, about);
         true
     }
 

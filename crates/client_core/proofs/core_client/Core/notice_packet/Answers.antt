@@ -1,5 +1,6 @@
-use Rattle.std.proofs.Common.{◌≡◌, ◌∙◌, ap, refl, sym, length, Some}
+use Rattle.std.proofs.Common.{◌≡◌, ◌∙◌, ap, refl, sym, Some}
 use Rattle.std.specs.Prelude.{option_map}
+use Rattle.client_calls.specs.Marks.{table_inner}
 use Rattle.client_core.specs.Kept.{Stands}
 use Rattle.client_core.proofs.CallLemmas.{value}
 use Rattle.client_core.proofs.NoticeLemmas.{packet_stands}
@@ -12,8 +13,8 @@ pub returns-clause-packet : goal.returns-clause-packet
 returns-clause-packet c client stands numbers told =
     let inside : Stands (Rattle.client_core.specs.contracts.core_client.Core.the_view c.self.inside) client = rw c.self.view_is stands in
     let here : Some c.in-Some.inner.now ≡ Some numbers = sym (ap (option_map (λ inner. inner.now)) c.in-Some.is) ∙ (c.inner.ensures.inner client.table inside.calls ∙ told) in
-    let same : c.ids-numbers.result.now ≡ numbers = c.ids-numbers.ensures.value ∙ ap (value numbers) here in (
+    let same : c.ids.result.now ≡ numbers = c.ids.ensures.value ∙ ap (value numbers) here in (
       refl,
       packet_stands _ _ client numbers inside (rw (c.mark_binding.ensures.marked, same) refl)
-          (c.mark_inner.ensures.stands client.table inside.calls numbers told (ap length (sym same))),
+          (rw (sym (ap (λ packet. table_inner packet client.table) told)) (c.mark_inner.ensures.stands client.table inside.calls)),
     )

@@ -3,7 +3,7 @@ use Rattle.call_table.specs.Kept.{Stands as StandsFor}
 use Rattle.call_table.specs.Table.{Table, inner_of}
 use Rattle.client_calls.specs.Marks.{table_alone}
 use Rattle.client_calls.specs.Sound.{AreSound}
-use Rattle.client_calls.proofs.marking.mark_inner.Given as goal
+use Rattle.client_calls.proofs.marking.mark_first.Given as goal
 
 abbrev pub invariant-loop-place : goal.invariant-loop-place
 invariant-loop-place l =

@@ -2,8 +2,8 @@ use Rattle.std.proofs.Common.{◌∙◌, take, ap, sym, arith}
 use Rattle.call_table.specs.Table.{inner_of}
 use Rattle.client_calls.specs.Marks.{table_alone}
 use Rattle.client_calls.proofs.FoldLemmas.{fold_all, fold_next_got, got_there, packets_stay}
-use Rattle.client_calls.proofs.marking.mark_inner.Goals.{in-Some, in_default}
-use Rattle.client_calls.proofs.marking.mark_inner.Goals as goal
+use Rattle.client_calls.proofs.marking.mark_first.Goals.{in-Some, in_default}
+use Rattle.client_calls.proofs.marking.mark_first.Goals as goal
 
 pub loop-place-init : goal.loop-place-init
 loop-place-init c = (λ table stands numbers told count. stands, λ last sound. sound)
