@@ -162,7 +162,7 @@ pub(crate) fn judges_in_room(
 }
 
 // What each message of a packet needs where it is accepted. Where the number of the message in the envelope is kept, that message
-// came again or gets a notice, and what is inside it isn't judged: so it stands alone, and its body isn't read.
+// came again or gets a notice, and what is inside it isn't judged: so it stands alone, and no item of it is read.
 fn dues_in(alloc: Global, outer: &Outer, standing: &SessionState) -> Result<Vec<Due>, Memory>
     ensures dues { (now : ℕ) (session : Session) → Stands now standing.now session
         → IfOk result (λ dues. dues.items ≡ dues_in (mark_in session outer.now.number) (message_in outer.now)) }

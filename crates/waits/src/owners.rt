@@ -244,7 +244,7 @@ impl Owners {
         Some(&self.list[place.owner].job(place.at).one.job)
     }
 
-    /// The least stamp of the jobs that are looked for, where one of these is below the limit; else the limit.
+    /// A stamp below which no job is looked for: by the first one that is, where one has a stamp below the limit.
     pub(crate) fn first_stamp(&self, wanted: &Wanted, limit: u64) -> u64
         ensures { count_before (is_wanted wanted.now) result self.now.jobs ≡ 0 }
     {

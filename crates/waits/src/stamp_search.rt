@@ -14,21 +14,8 @@ struct Bound {
     ready: usize,
 }
 
-/// A stamp between two: where just so many are ready below it if the ready jobs between the two stand evenly.
-fn even(low: Bound, high: Bound, count: usize) -> u64
-    requires apart { low.stamp + 1 < high.stamp }
-    requires more { low.ready < count }
-    requires less { count < high.ready }
-    ensures above { low.stamp < result }
-    ensures below { result < high.stamp }
-{
-    let stamps = u128::from(high.stamp - low.stamp);
-    let (part, all) = (count - low.ready, high.ready - low.ready);
-    let share = stamps * (part as u128) / (all as u128);
-    low.stamp + share.clamp(1, stamps - 1) as u64
-}
-
-/// A stamp between two: their middle, or the one that is right if the ready jobs stand evenly.
+/// A stamp between two: their middle, or the one below which just so many are ready if the ready jobs between the two stand
+/// evenly.
 fn between(low: Bound, high: Bound, count: usize, halves: bool) -> u64
     requires apart { low.stamp + 1 < high.stamp }
     requires more { low.ready < count }
@@ -36,11 +23,13 @@ fn between(low: Bound, high: Bound, count: usize, halves: bool) -> u64
     ensures above { low.stamp < result }
     ensures below { result < high.stamp }
 {
-    if halves {
-        low.stamp + (high.stamp - low.stamp) / 2
+    let stamps = u128::from(high.stamp - low.stamp);
+    let share = if halves {
+        stamps / 2
     } else {
-        even(low, high, count)
-    }
+        stamps * ((count - low.ready) as u128) / ((high.ready - low.ready) as u128)
+    };
+    low.stamp + share.clamp(1, stamps - 1) as u64
 }
 
 /// A stamp below which just so many jobs are ready. More than these are, and all stamps are below the limit.
