@@ -1,6 +1,6 @@
 //! The inner messages of a container, one after the other.
 
-ghost use Rattle.std.specs.Prelude.{◌≡◌, ◌≤◌, ◌==◌, IsTrue, length, None, Some, MatchResult};
+ghost use Rattle.std.specs.Prelude.{◌≡◌, ◌≤◌, ◌==◌, [], IsTrue, length, None, Some, MatchResult};
 ghost use Rattle.containers.specs.Container.{begins_container, messages_max};
 ghost use Rattle.containers.specs.Parts.{parts_of, first_from, causes};
 
@@ -61,6 +61,26 @@ impl<'a> Parts<'a> {
         let (_, first) = body.split_at(CONTAINER_HEAD_BYTES);
         check(number, count, first)?;
         Ok(Parts { count, left: first })
+    }
+
+    /// No messages.
+    pub fn none() -> Parts<'a>
+        ensures { result ≡ [] }
+    {
+        Parts {
+            count: 0,
+            left: &[],
+        }
+    }
+
+    /// The messages that are still to come, lent once more.
+    pub fn again(&self) -> Parts<'a>
+        ensures { result ≡ self.now }
+    {
+        Parts {
+            count: self.count,
+            left: self.left,
+        }
     }
 
     /// How many messages are still to come.

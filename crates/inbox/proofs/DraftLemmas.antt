@@ -7,9 +7,8 @@ use Rattle.id_window.specs.declared.mark.Mark.{Mark}
 use Rattle.id_window.specs.History.{History, FirstJudgement, Outcome, Refused, found, was_accepted, noted}
 use Rattle.inbox.specs.declared.draft.Draft.{Draft}
 use Rattle.inbox.specs.declared.judged.Verdict.{Verdict as BareVerdict}
-use Rattle.inbox.specs.declared.judged.Verdict.TheVariants as without
 use Rattle.inbox.specs.declared.judged.Judgement.{Judgement as BareJudgement}
-use Rattle.inbox.specs.Verdicts.{Verdict, Accepted, Again, Noticed, Judgement, bare, bare_judgement, is_bare_accepted}
+use Rattle.inbox.specs.Verdicts.{Verdict, Accepted, Again, Noticed, bare, bare_judgement, is_bare_accepted}
 use Rattle.inbox.specs.declared.kind.Kind.{Kind}
 use Rattle.inbox.specs.declared.kind.Kind.TheVariants.{Container, Unlawful, Acknowledgement, Call, Other}
 use Rattle.inbox.specs.Kinds.{inner_messages, item_told, kind_of}

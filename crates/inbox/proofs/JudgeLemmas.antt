@@ -11,8 +11,8 @@ use Rattle.id_window.specs.Marks.{Marks}
 use Rattle.id_window.specs.Window.{Contents, Stands as WindowStands}
 use Rattle.inbox.specs.declared.draft.Draft.{Draft}
 use Rattle.inbox.specs.declared.judged.Judgement.{Judgement as BareJudgement}
-use Rattle.inbox.specs.Verdicts.{Verdict, Accepted, Again, Noticed, Judgement, bare, bare_judgement, is_bare_accepted}
-use Rattle.inbox.specs.Kinds.{kind_of, inner_messages, item_told}
+use Rattle.inbox.specs.Verdicts.{Verdict, Again, Noticed, bare_judgement, is_bare_accepted}
+use Rattle.inbox.specs.Kinds.{kind_of, inner_messages}
 use Rattle.inbox.specs.Refusals.{Way, InEnvelope, by_envelope}
 use Rattle.inbox.specs.Judging.{Session, judge, verdict_by, is_container, is_uncontained, is_accepted, judged_session, judgement_on, inner_judgements, inner_session, judgements, session_after}
 use Rattle.inbox.specs.Inbox.{Stands, was_heard, without_room}

@@ -7,7 +7,7 @@ ghost use Rattle.inbox.specs.Inbox.{message_in};
 ghost use Rattle.containers.specs.Lent.{message_of};
 
 use crate::kind::{Kind, container_in, kind_among};
-use crate::outer::Outer;
+use crate::received::Received;
 use containers::{Part, Parts};
 use octets::Memory;
 use std::alloc::Global;
@@ -27,22 +27,21 @@ pub(crate) struct Draft {
 /// `Memory`.
 pub(crate) fn drafts_of(
     alloc: Global,
-    outer: &Outer,
+    outer: &Received<'_>,
     is_new: bool,
 ) -> Result<(Draft, Vec<Draft>), Memory>
     ensures message { IfOk result (λ drafts. drafts.0 ≡ draft_of (message_in outer.now)) }
     ensures inner { is_new ≡ true → IfOk result (λ drafts. drafts.1.items ≡ map draft_of (inner_messages (message_in outer.now))) }
 {
-    let body = outer.body.as_slice();
-    let container = container_in(outer.number, body);
     let message = Draft {
-        number: outer.number,
-        seq: outer.seq,
-        kind: kind_among(&container, body),
+        number: outer.message.number,
+        seq: outer.message.seq,
+        kind: outer.kind(),
     };
-    let inner = match container {
-        Some(Ok(parts)) if is_new => inner_drafts(alloc, parts)?,
-        _ => Vec::new(alloc),
+    let inner = if is_new {
+        inner_drafts(alloc, outer.inner())?
+    } else {
+        Vec::new(alloc)
     };
     Ok((message, inner))
 }

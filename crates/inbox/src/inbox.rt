@@ -5,7 +5,7 @@ ghost use Rattle.inbox.specs.States.{state_by, state_of_mark};
 
 use crate::draft::drafts_of;
 use crate::judged::Judged;
-use crate::outer::Outer;
+use crate::received::Received;
 use crate::refusal::by_envelope;
 use crate::settling::{settle, settle_inner};
 use id_window::laws::room_counts_nothing;
@@ -69,7 +69,7 @@ impl Inbox {
         alloc: Global,
         now: Moment,
         line: &SaltLine,
-        outer: &Outer,
+        outer: &Received<'_>,
     ) -> Result<Judged, Memory>
         requires { line.now.latest ≤ now }
         ensures judged { (session : Session) (salts : Line) → Remembers self.old session → LineStands line.now salts
@@ -84,8 +84,8 @@ impl Inbox {
         ensures unchanged_on_memory { OnErr result (self.new ≡ self.old) }
     {
         room_counts_nothing();
-        let envelope = by_envelope(now, line, outer.number, outer.salt);
-        let is_new = self.window.find(outer.number).is_none();
+        let envelope = by_envelope(now, line, outer.message.number, outer.message.salt);
+        let is_new = self.window.find(outer.message.number).is_none();
         let (message, inner) = drafts_of(alloc, outer, is_new)?;
         let mut judgements = Vec::with_capacity(alloc, 1 + inner.len())?;
         self.window.reserve(alloc, 1 + inner.len())?;

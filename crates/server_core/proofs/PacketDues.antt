@@ -1,9 +1,11 @@
 -- What the messages of a packet need, as they were judged.
-use Rattle.std.proofs.Common.{◌≡◌, ℕ, ◌&&◌, true, List, [], ◌∷◌, Option, Some, None, ap, map, subst, sym, refl}
+use Rattle.std.proofs.Common.{◌≡◌, ◌∙◌, ◌≤◌, ℕ, ◌&&◌, true, List, [], ◌∷◌, Option, Some, None, ap, length, map, subst, sym, refl, arith}
 use Rattle.std.specs.Prelude.{◌==◌}
 use Rattle.std.proofs.lemmas.Bool.{and_from, cond_both, eq-eqb}
+use Rattle.std.proofs.lemmas.List.{length-map}
 use Rattle.service_tl.specs.declared.lists.Message.{Message}
 use Rattle.id_window.specs.declared.mark.Mark.{Mark}
+use Rattle.inbox.specs.declared.judged.Judgement.{Judgement as BareJudgement}
 use Rattle.inbox.specs.Verdicts.{Judgement, Verdict, Accepted, Again, Noticed, bare, bare_judgement}
 use Rattle.inbox.specs.Kinds.{inner_messages, item_told, kind_of}
 use Rattle.inbox.specs.Judging.{Session, inner_judgements, is_container, is_uncontained, judge, judged_session, judgements, unfolded, verdict_again, verdict_by}
@@ -13,7 +15,7 @@ use Rattle.server_dispatch.specs.declared.action.Action.TheVariants.{Nothing}
 use Rattle.server_dispatch.specs.declared.dues.Due.{Due}
 use Rattle.server_dispatch.specs.Action.{due_by, due_needed, due_of, needed_of}
 use Rattle.server_core.specs.Room.{dues_in}
-use Rattle.server_core.specs.SettlingAll.{AreDue, are_numbered}
+use Rattle.server_core.specs.SettlingAll.{AreDue, AreFitting, are_numbered}
 
 due-by : (mark : Option Mark) (code : Option ℕ) (message : Message)
     → due_by message.seq (bare (verdict_by mark code (kind_of message) (item_told message.body))) (needed_of message)
@@ -121,6 +123,35 @@ numbers-by_mark way session message (Some mark) is =
     let P : Verdict → Type 0 = λ verdict. are_numbered (map bare_judgement (judged-with after message verdict)) (alone message) ≡ true in
     subst P (sym (kept-verdict way session message mark is)) (again-numbers after message mark)
 
-pub same-numbers : (way : Way) (session : Session) (message : Message)
+same-numbers : (way : Way) (session : Session) (message : Message)
     → are_numbered (map bare_judgement (judgements way session message)) (dues_in (found message.number session.history session.marks) message) ≡ true
 same-numbers way session message = numbers-by_mark way session message (found message.number session.history session.marks) refl
+
+-- ---- and there is what is needed for each
+
+-- each judgement has something that its message needs
+due-few : (judged : List Judgement) (bodies : List (List ℕ)) (dues : List Due) → AreDue judged bodies dues → length judged ≤ length dues
+due-few [] bodies dues are = omega arith
+due-few (judgement ∷ judged) [] dues are = absurd are
+due-few (judgement ∷ judged) (body ∷ bodies) [] are = absurd are
+due-few (judgement ∷ judged) (body ∷ bodies) (due ∷ dues) are = let rest = due-few judged bodies dues are.1 in omega arith
+
+-- each of them has something that its message needs
+pub told-few : (judged : List BareJudgement) (bodies : List (List ℕ)) (dues : List Due) (told : List Judgement) → judged ≡ map bare_judgement told → AreDue told bodies dues
+    → (length judged ≡ length told) × (length judged ≤ length dues)
+told-few judged bodies dues told are due =
+    let counted : length judged ≡ length told = ap (λ (judged : List BareJudgement). length judged) are ∙ length-map told bare_judgement in
+    let few = due-few told bodies dues due in
+    (counted, omega (arith, counted, few))
+
+pub are-fitting : (way : Way) (session : Session) (message : Message) (judged : List BareJudgement) (dues : List Due)
+    → judged ≡ map bare_judgement (judgements way session message) → dues ≡ dues_in (found message.number session.history session.marks) message
+    → AreFitting judged dues
+are-fitting way session message judged dues judged_is dues_are =
+    let told = judgements way session message in
+    let bodies = map (λ one. one.body) (message ∷ unfolded (judge way session message) message) in
+    let E : List Due → Type 0 = λ dues. AreDue told bodies dues in
+    let J : List BareJudgement → Type 0 = λ judged. are_numbered judged dues ≡ true in
+    let N : List Due → Type 0 = λ dues. are_numbered (map bare_judgement told) dues ≡ true in
+    let few = told-few judged bodies dues told judged_is (subst E (sym dues_are) (are-due way session message)) in
+    record { few = few.1; numbered = subst J (sym judged_is) (subst N (sym dues_are) (same-numbers way session message)) }

@@ -3,7 +3,7 @@ use Rattle.std.proofs.Common.{◌≡◌, ◌≢◌, ◌∙◌, ◌+◌, ◌≤�
 use Rattle.std.specs.Prelude.{fold, is_some}
 use Rattle.std.specs.List.{All, zip}
 use Rattle.std.proofs.lemmas.Bool.{cond_both}
-use Rattle.std.proofs.lemmas.List.{length-append, length-map}
+use Rattle.std.proofs.lemmas.List.{length-append}
 use Rattle.std.proofs.lemmas.List.Elements.{All-push}
 use Rattle.auth_keys.specs.declared.ring.RingKey.{RingKey}
 use Rattle.service_tl.specs.declared.item.Item.TheVariants.{DestroySession}
@@ -41,13 +41,6 @@ use Rattle.server_core.proofs.Left.{left-each, left-few}
 use Rattle.server_core.proofs.Ordered.{KeepsOrder, opened-order}
 use Rattle.server_core.proofs.Own.{GivesUpFor}
 
--- each judgement has something that its message needs
-pub due-few : (judged : List Judgement) (bodies : List (List ℕ)) (dues : List Due) → AreDue judged bodies dues → length judged ≤ length dues
-due-few [] bodies dues are = omega arith
-due-few (judgement ∷ judged) [] dues are = absurd are
-due-few (judgement ∷ judged) (body ∷ bodies) [] are = absurd are
-due-few (judgement ∷ judged) (body ∷ bodies) (due ∷ dues) are = let rest = due-few judged bodies dues are.1 in omega arith
-
 -- What a session judged, as the definitions tell it, and what the messages need. It is a value of its own, so that what these
 -- judgements are is looked at only where that is asked.
 pub record Told (judged : List BareJudgement) (bodies : List (List ℕ)) (dues : List Due) (all : List Judgement) : Type 0 where
@@ -59,14 +52,6 @@ pub record Told (judged : List BareJudgement) (bodies : List (List ℕ)) (dues :
 pub told-so : (judged : List BareJudgement) (bodies : List (List ℕ)) (dues : List Due) (all : List Judgement) → judged ≡ map bare_judgement all → AreDue all bodies dues
     → Told judged bodies dues all
 told-so judged bodies dues all are due = record { told = all; same = refl; are = are; due = due }
-
--- each of them has something that its message needs
-pub told-few : (judged : List BareJudgement) (bodies : List (List ℕ)) (dues : List Due) (told : List Judgement) → judged ≡ map bare_judgement told → AreDue told bodies dues
-    → (length judged ≡ length told) × (length judged ≤ length dues)
-told-few judged bodies dues told are due =
-    let counted : length judged ≡ length told = ap (λ (judged : List BareJudgement). length judged) are ∙ length-map told bare_judgement in
-    let few = due-few told bodies dues due in
-    (counted, omega (arith, counted, few))
 
 -- ---- what it owes first leaves its jobs alone
 

@@ -1,5 +1,5 @@
 -- A packet that a server hears: what its session judges, and what the event leaves.
-use Rattle.std.specs.Prelude.{◌≡◌, ◌≢◌, ◌<◌, ◌≤◌, ℕ, ◌+◌, true, List, [], length, map, All}
+use Rattle.std.specs.Prelude.{◌≡◌, ◌≢◌, ◌<◌, ◌≤◌, ℕ, ◌+◌, List, [], length, map, All}
 use Rattle.auth_keys.specs.declared.ring.RingKey.{RingKey}
 use Rattle.envelope.specs.declared.parts.Dir.TheVariants.{Up}
 use Rattle.envelope.specs.declared.parts.Envelope.{Envelope as Sealed}
@@ -25,7 +25,7 @@ use Rattle.server_core.specs.Among.{Among, IsAlone, IsOrderlySpeaker, remembers_
 use Rattle.server_core.specs.Failures.{blocked_of}
 use Rattle.server_core.specs.Hearing.{IsHeard}
 use Rattle.server_core.specs.Server.{CanSpeak, Kept}
-use Rattle.server_core.specs.SettlingAll.{AreDue, are_numbered}
+use Rattle.server_core.specs.SettlingAll.{AreDue}
 
 -- ---- what a server hears
 
@@ -86,10 +86,9 @@ pub record HasJudged {S : Type 0} (setting : Setting S) (envelope : Envelope) (k
   pub alone : IsAlone (name_in envelope) among
   pub order : IsOrderlySpeaker (name_in envelope) among.speaker
 
--- The room that was taken is that for what these judgements need, each that of its message, and for so many jobs that fail.
+-- The room that was taken is that for what these judgements need, and for so many jobs that fail.
 pub record Fits {S : Type 0} (setting : Setting S) (envelope : Envelope) (judged : List BareJudgement) (room : PacketRoom) (among : Among S) : Type 0 where
   pub due : AreDue (judged_of setting envelope among.speaker.session) (bodies_of setting envelope among.speaker.session) room.dues.items
-  pub numbered : are_numbered judged room.dues.items ≡ true
   pub few : blocked_of (name_in envelope) among.speaker.jobs + length judged ≤ room.limit
 
 -- ---- what the event leaves

@@ -1,5 +1,5 @@
 -- The judgements of a packet, settled in order.
-use Rattle.std.specs.Prelude.{◌≡◌, ◌≤◌, ◌==◌, ◌+◌, ℕ, Bool, List, [], ◌∷◌, All, ⊤, fold, length, max}
+use Rattle.std.specs.Prelude.{◌≡◌, ◌≤◌, ◌==◌, ◌+◌, ℕ, Bool, true, List, [], ◌∷◌, All, ⊤, fold, length, max}
 use Rattle.std.specs.List.{list_all, list_any, zip}
 use Rattle.id_window.specs.History.{History}
 use Rattle.outbox.specs.declared.kept.Kept.{Kept}
@@ -37,6 +37,11 @@ due_most due = max bad_salt_bytes (due_bytes due.action)
 -- the judgements are on the messages that need this, one after the other
 abbrev pub are_numbered : List BareJudgement → List Due → Bool
 are_numbered judged dues = list_all (λ one. one.0.number == one.1.number) (zip judged dues)
+
+-- Each judgement has at its place what its message needs: there are at most as many, and each is on that message.
+pub record AreFitting (judged : List BareJudgement) (dues : List Due) : Type 0 where
+  pub few : length judged ≤ length dues
+  pub numbered : are_numbered judged dues ≡ true
 
 -- the kept replies that the judgements call for,
 abbrev pub calls_of : List BareJudgement → List Due → Kept → Bool

@@ -1,6 +1,5 @@
 //! A session that has judged a packet answers it, in room that was taken before.
 
-ghost use Rattle.std.specs.Prelude.{◌≡◌, ◌≤◌, true, length};
 ghost use Rattle.server_dispatch.specs.Rings.{AreOf};
 ghost use Rattle.server_rules.specs.Event.{Envelope};
 ghost use Rattle.server_session.specs.Names.{name_kept};
@@ -10,7 +9,7 @@ ghost use Rattle.server_core.specs.Effects.{Gives};
 ghost use Rattle.server_core.specs.Packets.{AreBeside, Fits, HasJudged, kept_so};
 ghost use Rattle.server_core.specs.Room.{CanTake};
 ghost use Rattle.server_core.specs.Server.{CanSpeak, IsSound};
-ghost use Rattle.server_core.specs.SettlingAll.{are_numbered};
+ghost use Rattle.server_core.specs.SettlingAll.{AreFitting};
 
 use crate::among_others::AmongOthers;
 use crate::effects::Effects;
@@ -21,13 +20,13 @@ use crate::sessions::Sessions;
 use crate::speech::Speech;
 use draws::Draw;
 use envelope::Seal;
-use inbox::{Judged, Judgement};
+use inbox::Judged;
 use law_server::laws::{
     packets_are_judged, rows_keep_order, sessions_speak_for_themselves, speech_keeps_order,
     taken_jobs_are_open,
 };
 use msg_ids::Moment;
-use server_dispatch::{Bindings, Due, Speaking, Turn, acks_in};
+use server_dispatch::{Bindings, Speaking, Turn, acks_in};
 use server_session::SessionState;
 use std::alloc::Global;
 use std::mem;
@@ -60,6 +59,7 @@ impl JudgedPacket {
     ) -> (Sessions, Effects)
         requires speaking { CanSpeak (S.keys seal.now) now self.standing }
         requires room { CanTake self.standing jobs.old.room bindings.old.room self.room }
+        requires fitting { AreFitting self.judged self.room.dues.items }
         requires beside { AreBeside (S.keys seal.now) now (name_kept self.standing) self.others }
         ensures given { (keys : Keys) (envelope : Envelope) (among : Among D) → AreOf (S.keys seal.now) keys
             → HasJudged (setting_of now D.step keys) envelope self.others self.standing jobs.old.jobs bindings.old.bindings draw.old self.judged among
@@ -92,7 +92,7 @@ impl JudgedPacket {
             packets,
             outs,
         } = speech;
-        let judged = in_room(judged.as_slice(), dues.as_slice());
+        let judged = judged.as_slice();
         acks_in(judged, &mut acks);
         let mut turn = Turn { owing, entries };
         turn.opens(now, &mut standing, draw, acks.as_slice());
@@ -125,27 +125,4 @@ impl JudgedPacket {
         let sessions = goes_back::<D>(jobs, others, standing);
         (sessions, Effects { out, entries })
     }
-}
-
-// The judgements, where each is on the message whose needs stand at its place: the room that was taken is that for these. It is
-// so of what a session of a server judges.
-fn in_room<'a>(judged: &'a [Judgement], dues: &[Due]) -> &'a [Judgement]
-    ensures few { length result.now ≤ length dues.now }
-    ensures numbered { are_numbered result.now dues.now ≡ true }
-    ensures all { length judged.now ≤ length dues.now → are_numbered judged.now dues.now ≡ true → result.now ≡ judged.now }
-{
-    if judged.len() > dues.len() || !are_numbered(judged, dues) {
-        return &[];
-    }
-    judged
-}
-
-// Whether each judgement is on the message whose needs stand at its place.
-fn are_numbered(judged: &[Judgement], dues: &[Due]) -> bool
-    ensures { result ≡ are_numbered judged.now dues.now }
-{
-    judged
-        .iter()
-        .zip(dues)
-        .all(|(judgement, due)| judgement.number == due.number)
 }

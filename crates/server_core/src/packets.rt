@@ -11,14 +11,13 @@ ghost use Rattle.inbox.specs.Acceptance.{IsAcceptable};
 ghost use Rattle.server_dispatch.specs.Rings.{AreOf};
 ghost use Rattle.server_rules.specs.Answer.{after_packet, begun, hears as heard_in, message_in, name_in};
 ghost use Rattle.server_rules.specs.Server.{Server as Rules, Session, remembered, session_named};
-ghost use Rattle.law_server.specs.Order.{AreOrdered};
 ghost use Rattle.server_session.specs.Says.{Keys, setting_of};
 ghost use Rattle.server_core.specs.declared.desk.Heard.TheVariants.{Judged, NotOpened};
 ghost use Rattle.server_core.specs.Acceptance.{WasTaken};
 ghost use Rattle.server_core.specs.Effects.{Gives};
 ghost use Rattle.server_core.specs.Packets.{IsHeardOf, NothingIsDone, brought, brought_in, effects_in};
 ghost use Rattle.server_core.specs.Desks.{Does};
-ghost use Rattle.server_core.specs.Server.{Stands, StandsFor};
+ghost use Rattle.server_core.specs.Server.{StandsFor};
 ghost use Rattle.server_core.specs.Sessions.{is_kept_as};
 
 use crate::desk::{Heard, Reply};
@@ -148,7 +147,7 @@ impl<S: Seal> Server<S> {
         requires later { self.old.moment ≤ moment }
         requires place { position (is_kept_as (record { key = name.key; session = name.session })) self.old.sessions ≡ Some place }
         ensures heard { IfOk result (λ reply. reply.heard ≡ Judged name.key name.session) }
-        ensures given { (keys : Keys) (server : Rules) → AreOf (S.keys self.old.seal) keys → Stands self.old server → AreOrdered server.sessions server.jobs
+        ensures given { (keys : Keys) (server : Rules) → AreOf (S.keys self.old.seal) keys → StandsFor self.old server
             → IfOk result (λ reply. Gives S.lock (S.keys self.old.seal) self.new draw.new (effects_in reply)
             (after_packet (setting_of moment D.step keys) (brought name.key name.session outer.now) server draw.old)) }
         ensures unchanged_on_memory { OnErr result (self.new ≡ self.old) }
@@ -217,7 +216,7 @@ impl<S: Seal> Server<S> {
         requires key { IsSome (entry_of name.key (S.keys self.old.seal)) }
         requires none { position (is_kept_as (record { key = name.key; session = name.session })) self.old.sessions ≡ None }
         ensures heard { IfOk result (λ reply. reply.heard ≡ Judged name.key name.session) }
-        ensures given { (keys : Keys) (server : Rules) → AreOf (S.keys self.old.seal) keys → Stands self.old server → AreOrdered server.sessions server.jobs
+        ensures given { (keys : Keys) (server : Rules) → AreOf (S.keys self.old.seal) keys → StandsFor self.old server
             → IfOk result (λ reply. Gives S.lock (S.keys self.old.seal) self.new draw.new (effects_in reply)
             (after_packet (setting_of moment D.step keys) (brought name.key name.session outer.now) server draw.old)) }
         ensures unchanged_on_memory { OnErr result (self.new ≡ self.old) }

@@ -17,11 +17,11 @@ ghost use Rattle.server_session.specs.Unsaid.{IsCalled};
 ghost use Rattle.server_session.specs.Rooms.{with_replies_left};
 ghost use Rattle.server_session.specs.SessionState.{IsAt, Stands, key_of, number_of, numbers_left, replies_left};
 ghost use Rattle.server_core.specs.Room.{CanTake, dues_in, dues_most, packet_bytes, packet_messages, settling_messages};
-ghost use Rattle.server_core.specs.SettlingAll.{calls_by};
+ghost use Rattle.server_core.specs.SettlingAll.{AreFitting, calls_by};
 ghost use Rattle.server_core.specs.Speech.{IsRoomFor};
 
 use crate::speech::Speech;
-use inbox::{Judged, Outer};
+use inbox::{Judged, Outer, Received};
 use msg_ids::Moment;
 use octets::Memory;
 use server_dispatch::{Action, Bindings, Due, Entries, NOTICE_BYTES, dues_of};
@@ -65,7 +65,7 @@ impl PacketRoom {
     /// `Memory`.
     pub(crate) fn new(
         alloc: Global,
-        outer: &Outer,
+        outer: &Received<'_>,
         standing: &SessionState,
         jobs: &Jobs,
     ) -> Result<PacketRoom, Memory>
@@ -97,7 +97,7 @@ impl PacketRoom {
 /// `Memory`, and then the session is as it was, and so are the jobs and the bindings but for their room.
 pub(crate) fn takes_room(
     alloc: Global,
-    outer: &Outer,
+    outer: &Received<'_>,
     standing: &mut SessionState,
     jobs: &mut Jobs,
     bindings: &mut Bindings,
@@ -119,8 +119,8 @@ pub(crate) fn takes_room(
     Ok(room)
 }
 
-/// Takes all room for a packet's event, and then the session judges the packet and remembers it. No memory is needed after
-/// that.
+/// Looks through a packet once, takes all room for its event, and then the session judges it and remembers it. No memory is
+/// needed after that.
 ///
 /// # Errors
 ///
@@ -140,6 +140,8 @@ pub(crate) fn judges_in_room(
     ensures limit { IfOk result (λ both. both.0.limit ≡ blocked_count_of (key_of standing.old) (number_of standing.old) jobs.old.jobs + length both.0.dues.items) }
     ensures judged { (session : Session) → Stands now standing.old session
         → IfOk result (λ both. both.1 ≡ map bare_judgement (judgements (InEnvelope now session.salts outer.now.salt) (remembered session) (message_in outer.now))) }
+    ensures fitting { (session : Session) → Stands now standing.old session
+        → IfOk result (λ both. AreFitting both.1 both.0.dues.items) }
     ensures stands { (session : Session) (queue : Queue) → Stands now standing.old session
         → IsOrderly session.history session.replies session.counters.last queue
         → OnOk result (Stands now standing.new (record session { history = (session_after (InEnvelope now session.salts outer.now.salt) (remembered session) (message_in outer.now)).history })) }
@@ -151,8 +153,9 @@ pub(crate) fn judges_in_room(
     ensures unchanged_on_memory { OnErr result (standing.new ≡ standing.old) }
 {
     let before = standing.replies_left();
-    let room = takes_room(alloc, outer, standing, jobs, bindings)?;
-    match standing.judges(alloc, now, outer) {
+    let received = Received::read(outer);
+    let room = takes_room(alloc, &received, standing, jobs, bindings)?;
+    match standing.judges(alloc, now, &received) {
         Ok(judged) => Ok((room, judged)),
         Err(memory) => {
             standing.release(before);
@@ -163,14 +166,14 @@ pub(crate) fn judges_in_room(
 
 // What each message of a packet needs where it is accepted. Where the number of the message in the envelope is kept, that message
 // came again or gets a notice, and what is inside it isn't judged: so it stands alone, and no item of it is read.
-fn dues_in(alloc: Global, outer: &Outer, standing: &SessionState) -> Result<Vec<Due>, Memory>
+fn dues_in(alloc: Global, outer: &Received<'_>, standing: &SessionState) -> Result<Vec<Due>, Memory>
     ensures dues { (now : ℕ) (session : Session) → Stands now standing.now session
         → IfOk result (λ dues. dues.items ≡ dues_in (mark_in session outer.now.number) (message_in outer.now)) }
     ensures few { IfOk result (λ dues. vec_len dues ≤ 1021) }
 {
-    match standing.mark(outer.number) {
+    match standing.mark(outer.number()) {
         None => dues_of(alloc, outer),
-        Some(_) => due_alone(alloc, outer.number),
+        Some(_) => due_alone(alloc, outer.number()),
     }
 }
 

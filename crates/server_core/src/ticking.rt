@@ -3,10 +3,9 @@
 ghost use Rattle.std.specs.Prelude.{◌≡◌, ◌≤◌, max, IfOk, OnErr};
 ghost use Rattle.server_rules.specs.Server.{Server as Rules};
 ghost use Rattle.server_rules.specs.Answer.{after_tick};
-ghost use Rattle.law_server.specs.Order.{AreOrdered};
 ghost use Rattle.server_session.specs.Says.{Keys, setting_of};
 ghost use Rattle.server_core.specs.Desks.{Does};
-ghost use Rattle.server_core.specs.Server.{Stands, StandsFor};
+ghost use Rattle.server_core.specs.Server.{StandsFor};
 ghost use Rattle.server_core.specs.Effects.{Gives};
 
 use crate::effects::Effects;
@@ -35,7 +34,7 @@ impl<S: Seal> Server<S> {
         draw: &mut D,
     ) -> Result<Effects, Memory>
         requires later { self.old.moment ≤ moment }
-        ensures given { (keys : Keys) (server : Rules) → Stands self.old server → AreOrdered server.sessions server.jobs
+        ensures given { (keys : Keys) (server : Rules) → StandsFor self.old server
             → IfOk result (λ effects. Gives S.lock (S.keys self.old.seal) self.new draw.new effects (after_tick (setting_of moment D.step keys) server draw.old)) }
         ensures unchanged_on_memory { OnErr result (self.new ≡ self.old) }
         ensures same_seal { self.new.seal ≡ self.old.seal }

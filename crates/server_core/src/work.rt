@@ -9,7 +9,6 @@ ghost use Rattle.waits.specs.Limits.{most_jobs};
 ghost use Rattle.server_rules.specs.Server.{Name, Server as Rules};
 ghost use Rattle.server_rules.specs.Event.{Speaker};
 ghost use Rattle.server_rules.specs.Answer.{after_work};
-ghost use Rattle.law_server.specs.Order.{AreOrdered};
 ghost use Rattle.regs_service.specs.Served.{reply_bytes_max};
 ghost use Rattle.server_session.specs.declared.session.SessionState.{SessionState as One};
 ghost use Rattle.server_session.specs.Names.{name_kept};
@@ -17,7 +16,7 @@ ghost use Rattle.server_session.specs.Says.{Keys, setting_of};
 ghost use Rattle.server_session.specs.Rooms.{with_replies_left};
 ghost use Rattle.server_session.specs.SessionState.{IsAt, replies_left};
 ghost use Rattle.server_core.specs.Sessions.{AreApart, is_kept_as};
-ghost use Rattle.server_core.specs.Server.{CanSpeak, Stands, StandsFor};
+ghost use Rattle.server_core.specs.Server.{CanSpeak, StandsFor};
 ghost use Rattle.server_core.specs.Desks.{Does, IsShortRunAt};
 ghost use Rattle.server_core.specs.Effects.{Gives};
 ghost use Rattle.server_core.specs.Speech.{Begins};
@@ -170,7 +169,7 @@ impl<S: Seal> Server<S> {
         requires ready { job.k < ready_count self.old.jobs }
         requires whose { (one : Job) → ready_job job.k self.old.jobs ≡ Some one → (one.key ≡ job.key) × (one.session ≡ job.session) }
         requires place { position (is_kept_as (record { key = job.key; session = job.session })) self.old.sessions ≡ Some place }
-        ensures given { (keys : Keys) (server : Rules) → Stands self.old server → AreOrdered server.sessions server.jobs
+        ensures given { (keys : Keys) (server : Rules) → StandsFor self.old server
             → IfOk result (λ effects. Gives S.lock (S.keys self.old.seal) self.new draw.new effects
             (after_work (setting_of moment D.step keys) job.k V.step service.old server draw.old).0) }
         ensures served { (one : Job) → ready_job job.k self.old.jobs ≡ Some one → OnOk result (service.new ≡ (V.step service.old one.request).1) }

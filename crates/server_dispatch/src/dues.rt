@@ -11,7 +11,7 @@ ghost use Rattle.server_dispatch.specs.Action.{accepted_needed, asked_by, due_ne
 
 use crate::action::{Action, accepted_needed};
 use containers::{Part, Parts, is_container};
-use inbox::Outer;
+use inbox::Received;
 use octets::Memory;
 use server_session::{Called, SessionState};
 use service_tl::{Item, parse};
@@ -44,31 +44,17 @@ impl Due {
 /// # Errors
 ///
 /// `Memory`.
-pub fn dues_of(alloc: Global, outer: &Outer) -> Result<Vec<Due>, Memory>
+pub fn dues_of(alloc: Global, outer: &Received<'_>) -> Result<Vec<Due>, Memory>
     ensures dues { IfOk result (λ dues. dues.items ≡ map due_needed (message_in outer.now ∷ inner_messages (message_in outer.now))) }
     ensures few { IfOk result (λ dues. vec_len dues ≤ messages_max + 1) }
 {
-    let body = outer.body.as_slice();
     let mut dues = Vec::new(alloc);
-    dues.push(due_told(alloc, outer.number, body)?)?;
-    add_inner(alloc, outer.number, body, &mut dues)?;
+    dues.push(due_told(alloc, outer.number(), outer.body())?)?;
+    add_parts(alloc, outer.inner(), &mut dues)?;
     Ok(dues)
 }
 
-// Puts behind these what each message inside the message with this number and body needs.
-fn add_inner(alloc: Global, number: u64, body: &[u8], dues: &mut Vec<Due>) -> Result<(), Memory>
-    ensures added { OnOk result (dues.new.items ≡ dues.old.items ++ map due_needed (inner_messages (record { number = number; seq = 0; body = body.now }))) }
-    ensures few { OnOk result (vec_len dues.new ≤ vec_len dues.old + messages_max) }
-{
-    if !is_container(body) {
-        return Ok(());
-    }
-    match Parts::read(number, body) {
-        Ok(parts) => add_parts(alloc, parts, dues),
-        Err(_fault) => Ok(()),
-    }
-}
-
+// Puts behind these what each of these messages needs.
 fn add_parts(alloc: Global, parts: Parts<'_>, dues: &mut Vec<Due>) -> Result<(), Memory>
     ensures added { OnOk result (dues.new.items ≡ dues.old.items ++ map due_needed parts.entry) }
     ensures few { OnOk result (vec_len dues.new ≤ vec_len dues.old + messages_max) }

@@ -31,7 +31,7 @@ use crate::laws::{replies_are_results, said_by_number};
 use crate::outlook::Outlook;
 use draws::Draw;
 use envelope::Seal;
-use inbox::{Inbox, Judged, Mark, Outer};
+use inbox::{Inbox, Judged, Mark, Received};
 use law_server::laws::packets_are_judged;
 use msg_ids::{Moment, Numbers};
 use octets::Memory;
@@ -129,7 +129,12 @@ impl SessionState {
     /// # Errors
     ///
     /// `Memory`, and then it is as it was.
-    pub fn judges(&mut self, alloc: Global, now: Moment, outer: &Outer) -> Result<Judged, Memory>
+    pub fn judges(
+        &mut self,
+        alloc: Global,
+        now: Moment,
+        outer: &Received<'_>,
+    ) -> Result<Judged, Memory>
         requires at { IsAt now self.old }
         ensures judged { (session : Session) → Stands now self.old session
             → IfOk result (λ judged. judged ≡ map bare_judgement (judgements (InEnvelope now session.salts outer.now.salt) (remembered session) (message_in outer.now))) }

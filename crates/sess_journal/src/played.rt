@@ -22,7 +22,7 @@ use std::alloc::Global;
 use std::marker::Model;
 
 /// Why a record isn't played.
-#[derive(Clone, Copy, Debug, PartialEq, Eq)]
+#[derive(Clone, Copy)]
 pub(crate) enum PlayFault {
     /// It isn't lawful in its place.
     Unlawful,

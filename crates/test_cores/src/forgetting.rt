@@ -1,7 +1,10 @@
 //! What a session lets go of, says once more, and tells of numbers.
 
+ghost use Rattle.std.specs.Prelude.{◌≡◌};
+ghost use Rattle.server_session.specs.SessionState.{IsAt, numbers_left};
+
 use draws::StepDraw;
-use inbox::{Mark, Outer};
+use inbox::{Mark, Outer, Received};
 use msg_ids::Moment;
 use octets::{Memory, Octets};
 use outbox::Bytes;
@@ -24,12 +27,23 @@ fn call(alloc: Global, number: u64, seq: u32) -> Result<Outer, Memory> {
     })
 }
 
+// The session judges such a call.
+fn judges(alloc: Global, standing: &mut SessionState, number: u64, seq: u32) -> Result<(), Memory>
+    requires at { IsAt 0 standing.old }
+    ensures at { IsAt 0 standing.new }
+    ensures numbers { numbers_left standing.new ≡ numbers_left standing.old }
+{
+    let call = call(alloc, number, seq)?;
+    standing.judges(alloc, Moment::new(0), &Received::read(&call))?;
+    Ok(())
+}
+
 // A session that has answered two calls, 4 and 8.
 fn answered(alloc: Global) -> Result<SessionState, Memory> {
     let now = Moment::new(0);
     let mut standing = SessionState::new(alloc, now, 7, 9, 4, &mut StepDraw::new())?;
-    standing.judges(alloc, now, &call(alloc, 4, 1)?)?;
-    standing.judges(alloc, now, &call(alloc, 8, 3)?)?;
+    judges(alloc, &mut standing, 4, 1)?;
+    judges(alloc, &mut standing, 8, 3)?;
     standing.reserve(alloc, 2)?;
     let mut owing = OutgoingMessages::new(alloc, 2, 32)?;
     standing.answers::<StepDraw>(now, &mut owing, 4, Bytes::from_static(b"done"));

@@ -6,7 +6,7 @@ ghost use Rattle.server_session.specs.SessionState.{IsAt};
 
 use draws::{Draw, StepDraw};
 use envelope::{Dir, MtSeal, Opened, Seal};
-use inbox::{Mark, Outer};
+use inbox::{Mark, Outer, Received};
 use msg_ids::Moment;
 use octets::{Memory, Octets};
 use outbox::Bytes;
@@ -112,7 +112,7 @@ fn judges(alloc: Global, standing: &mut SessionState, call: u16) -> Result<usize
         salt: 12_728_272_447_693_586_010,
         body: Octets::copy(alloc, &[1, 2, 3, 4])?,
     };
-    let judged = standing.judges(alloc, Moment::new(0), &call)?;
+    let judged = standing.judges(alloc, Moment::new(0), &Received::read(&call))?;
     Ok(judged.as_slice().len())
 }
 

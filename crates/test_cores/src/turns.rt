@@ -1,8 +1,11 @@
 //! Calls that wait for others, that are dropped while they are unfinished, and that come under a temporary key.
 
+ghost use Rattle.std.specs.Prelude.{◌≡◌};
+ghost use Rattle.server_session.specs.SessionState.{IsAt, numbers_left};
+
 use auth_keys::Ring;
 use draws::StepDraw;
-use inbox::{Judgement, Mark, Outer, Verdict};
+use inbox::{Judgement, Mark, Outer, Received, Verdict};
 use msg_ids::Moment;
 use octets::{Memory, Octets};
 use server_dispatch::{Bindings, CallDue, Entries, Short, Turn, acks_in};
@@ -46,15 +49,26 @@ fn request(alloc: Global, number: u64, seq: u32) -> Result<Outer, Memory> {
     })
 }
 
+// The session judges such a message.
+fn judges(alloc: Global, standing: &mut SessionState, number: u64, seq: u32) -> Result<(), Memory>
+    requires at { IsAt 0 standing.old }
+    ensures at { IsAt 0 standing.new }
+    ensures numbers { numbers_left standing.new ≡ numbers_left standing.old }
+{
+    let request = request(alloc, number, seq)?;
+    standing.judges(alloc, Moment::new(0), &Received::read(&request))?;
+    Ok(())
+}
+
 // 8 and 12 are calls, and 16 waits for both. Then 24 asks to drop the answer to 8, and what has failed is given up. The
 // entries, how many jobs were ready and how many there were before, and how many there are afterwards.
 fn drops_a_call(alloc: Global, ring: &Ring) -> Result<(Entries, usize, usize, usize), Memory> {
     let now = Moment::new(0);
     let mut standing = SessionState::new(alloc, now, KEY_ID, 9, 8, &mut StepDraw::new())?;
-    standing.judges(alloc, now, &request(alloc, 8, 1)?)?;
-    standing.judges(alloc, now, &request(alloc, 12, 3)?)?;
-    standing.judges(alloc, now, &request(alloc, 16, 5)?)?;
-    standing.judges(alloc, now, &request(alloc, 24, 7)?)?;
+    judges(alloc, &mut standing, 8, 1)?;
+    judges(alloc, &mut standing, 12, 3)?;
+    judges(alloc, &mut standing, 16, 5)?;
+    judges(alloc, &mut standing, 24, 7)?;
     standing.reserve(alloc, 6)?;
     let mut turn = Turn {
         owing: OutgoingMessages::new(alloc, 6, 288)?,

@@ -9,7 +9,7 @@ ghost use Rattle.inbox.specs.Judging.{Session, session_after};
 ghost use Rattle.inbox.specs.Inbox.{Stands, Remembers, message_in};
 
 use crate::steps::{Plays, Step, are_played, nothing, number, pair, put, show, tell};
-use inbox::{Inbox, Judged, Judgement, Mark, Outer, Verdict};
+use inbox::{Inbox, Judged, Judgement, Mark, Outer, Received, Verdict};
 use msg_ids::Moment;
 use octets::{IdList, Memory, Octets};
 use salt_line::SaltLine;
@@ -63,7 +63,7 @@ fn judged(inbox: &mut Inbox, alloc: Global, seconds: u64, outer: Outer) -> Resul
             return Err(fault.into());
         }
     };
-    let judged = inbox.judge(alloc, Moment::new(seconds), &line, &outer);
+    let judged = inbox.judge(alloc, Moment::new(seconds), &line, &Received::read(&outer));
     drop(line);
     drop(outer);
     Ok(judged?)
@@ -275,8 +275,8 @@ fn judge_both(
         → (let once = session_after (InEnvelope now salts first.now.salt) session (message_in first.now) in
         Remembers inbox.new (session_after (InEnvelope now salts second.now.salt) once (message_in second.now))) }
 {
-    drop(inbox.judge(alloc, now, line, first)?);
-    drop(inbox.judge(alloc, now, line, second)?);
+    drop(inbox.judge(alloc, now, line, &Received::read(first))?);
+    drop(inbox.judge(alloc, now, line, &Received::read(second))?);
     Ok(())
 }
 

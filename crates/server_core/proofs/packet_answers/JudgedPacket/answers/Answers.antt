@@ -1,4 +1,4 @@
-use Rattle.std.proofs.Common.{◌≡◌, ◌∙◌, ◌≤◌, ℕ, false, true, List, [], length, map, ap, sym, subst, refl, arith}
+use Rattle.std.proofs.Common.{◌≡◌, ◌∙◌, ◌≤◌, ℕ, false, true, List, [], length, ap, sym, subst, refl, arith}
 use Rattle.auth_keys.specs.Rings.{entry_of}
 use Rattle.auth_keys.specs.declared.ring.RingKey.{RingKey}
 use Rattle.std.specs.Prelude.{IsSome, nat_lt}
@@ -7,10 +7,9 @@ use Rattle.waits.specs.Held.{Held as Jobs}
 use Rattle.waits.specs.Jobs.{Queue}
 use Rattle.id_window.specs.History.{History}
 use Rattle.inbox.specs.declared.judged.Judgement.{Judgement as BareJudgement}
-use Rattle.inbox.specs.Verdicts.{Judgement, bare_judgement}
+use Rattle.inbox.specs.Verdicts.{Judgement}
 use Rattle.server_output.specs.Dues.{Dues}
 use Rattle.server_output.specs.Outs.{AreSent}
-use Rattle.server_dispatch.specs.declared.dues.Due.{Due}
 use Rattle.server_dispatch.specs.Bindings.{Held as Bindings}
 use Rattle.server_dispatch.specs.Entries.{Held}
 use Rattle.server_dispatch.specs.Speaks.{Speaks}
@@ -35,8 +34,9 @@ use Rattle.server_core.proofs.AllSettled.{judged-calls}
 use Rattle.server_core.proofs.Attached.{own-rest}
 use Rattle.server_core.proofs.Names.{name-by}
 use Rattle.server_core.proofs.Ordered.{KeepsOrder}
+use Rattle.server_core.proofs.PacketDues.{told-few}
 use Rattle.server_core.proofs.PacketRoom.{acks-short, opening-room, sending-room, settling-room}
-use Rattle.server_core.proofs.Taken.{Told, begins-taking, left-apart, left-bound, left-drawn, left-entered, left-sent, opened-settling, sound-last, taken-sent, told-few, told-so}
+use Rattle.server_core.proofs.Taken.{Told, begins-taking, left-apart, left-bound, left-drawn, left-entered, left-sent, opened-settling, sound-last, taken-sent, told-so}
 use Rattle.server_core.proofs.packet_answers.JudgedPacket.answers.Goals as goal
 
 -- a speaker with the same jobs and bindings
@@ -47,12 +47,12 @@ lent-speaks jobs_are bindings_are speaks =
 
 pub opens-requires : goal.opens-requires
 opens-requires g c =
-    let long = ap (λ (dues : List Due). length dues) c.as_slice-2.ensures.value in
-    let acks_long = ap (λ (acks : List ℕ). length acks) c.as_slice-3.ensures.value in
-    let acks = length c.as_slice-3.result.now in
+    let long = ap (λ (judged : List BareJudgement). length judged) c.as_slice-judged.ensures in
+    let acks_long = ap (λ (acks : List ℕ). length acks) c.as_slice.ensures.value in
+    let acks = length c.as_slice.result.now in
     let standing = c.args.self.standing in
     let room = c.args.self.room in
-    let few : acks ≤ length room.dues.items = omega (arith, c.in_room-judged.ensures.few, c.acks_in.ensures.few, long, acks_long) in
+    let few : acks ≤ length room.dues.items = omega (arith, c.requires.fitting.few, c.acks_in.ensures.few, long, acks_long) in
     record {
       few = acks-short acks standing c.args.jobs.now.room c.args.bindings.now.room room c.requires.room few;
       room = opening-room acks standing c.args.jobs.now.room c.args.bindings.now.room room c.requires.room few c.requires.speaking.numbers;
@@ -61,16 +61,16 @@ opens-requires g c =
 
 pub settles_all-requires : goal.settles_all-requires
 settles_all-requires g c =
-    let long = ap (λ (dues : List Due). length dues) c.as_slice-2.ensures.value in
-    let acks_long = ap (λ (acks : List ℕ). length acks) c.as_slice-3.ensures.value in
-    let acks = length c.as_slice-3.result.now in
+    let long = ap (λ (judged : List BareJudgement). length judged) c.as_slice-judged.ensures in
+    let acks_long = ap (λ (acks : List ℕ). length acks) c.as_slice.ensures.value in
+    let acks = length c.as_slice.result.now in
     let standing = c.args.self.standing in
     let room = c.args.self.room in
-    let judged = c.in_room-judged.result.now in
-    let enough : length judged ≤ length room.dues.items = omega (arith, c.in_room-judged.ensures.few, long) in
+    let judged = c.as_slice-judged.result.now in
+    let enough : length judged ≤ length room.dues.items = omega (arith, c.requires.fitting.few, long) in
     let few : acks ≤ length room.dues.items = omega (arith, enough, c.acks_in.ensures.few, acks_long) in
-    let N : List Due → Type 0 = λ dues. are_numbered judged dues ≡ true in
-    let asked = judged-calls judged room.dues.items (subst N c.as_slice-2.ensures.value c.in_room-judged.ensures.numbered) in
+    let N : List BareJudgement → Type 0 = λ judged. are_numbered judged room.dues.items ≡ true in
+    let asked = judged-calls judged room.dues.items (subst N (sym c.as_slice-judged.ensures) c.requires.fitting.numbered) in
     record {
       enough = enough;
       room = settling-room (calls_of judged room.dues.items) c.args.now acks standing c.opens.new.standing c.args.jobs.now.room c.args.bindings.now.room room c.opens.new.self
@@ -82,10 +82,10 @@ settles_all-requires g c =
 
 pub sends-out-requires : goal.sends-out-requires
 sends-out-requires g c =
-    let acks = length c.as_slice-3.result.now in
+    let acks = length c.as_slice.result.now in
     let standing = c.args.self.standing in
     let room = c.args.self.room in
-    let calls = calls_of c.in_room-judged.result.now room.dues.items in
+    let calls = calls_of c.as_slice-judged.result.now room.dues.items in
     let can = sending-room calls c.args.now acks _ _ _ standing c.opens.new.standing c.settles_all.new.self.speaking.standing c.args.jobs.now.room c.args.bindings.now.room room
     c.opens.new.self c.settles_all.new.self.speaking.turn c.requires.room c.requires.speaking.numbers c.opens.ensures.spends (c.settles_all.ensures.uses calls (λ kept is. is)) in
     let K : ℕ → Type 0 = λ key. IsSome (entry_of key (g.S.Seal.keys c.args.seal.now)) in
@@ -101,9 +101,9 @@ sends-out-requires g c =
 
 pub goes_back-sessions-requires : goal.goes_back-sessions-requires
 goes_back-sessions-requires g c =
-    let acks = length c.as_slice-3.result.now in
+    let acks = length c.as_slice.result.now in
     let room = c.args.self.room in
-    let calls = calls_of c.in_room-judged.result.now room.dues.items in
+    let calls = calls_of c.as_slice-judged.result.now room.dues.items in
     let can = sending-room calls c.args.now acks _ _ _ c.args.self.standing c.opens.new.standing c.settles_all.new.self.speaking.standing c.args.jobs.now.room c.args.bindings.now.room room
     c.opens.new.self c.settles_all.new.self.speaking.turn c.requires.room c.requires.speaking.numbers c.opens.ensures.spends (c.settles_all.ensures.uses calls (λ kept is. is)) in
     let same : name_kept c.sends-out.new.standing ≡ name_kept c.args.self.standing =
@@ -116,9 +116,9 @@ goes_back-sessions-requires g c =
 
 pub returns-clause-sound : goal.returns-clause-sound
 returns-clause-sound g c =
-    let acks = length c.as_slice-3.result.now in
+    let acks = length c.as_slice.result.now in
     let room = c.args.self.room in
-    let calls = calls_of c.in_room-judged.result.now room.dues.items in
+    let calls = calls_of c.as_slice-judged.result.now room.dues.items in
     let can = sending-room calls c.args.now acks _ _ _ c.args.self.standing c.opens.new.standing c.settles_all.new.self.speaking.standing c.args.jobs.now.room c.args.bindings.now.room room
     c.opens.new.self c.settles_all.new.self.speaking.turn c.requires.room c.requires.speaking.numbers c.opens.ensures.spends (c.settles_all.ensures.uses calls (λ kept is. is)) in
     let same : name_kept c.sends-out.new.standing ≡ name_kept c.args.self.standing =
@@ -162,19 +162,12 @@ returns-clause-given g c = λ keys envelope among of has fits.
       gives = rows.gives_up;
       takes = c.taken_jobs_are_open.ensures.first;
     } in
-    let given = c.as_slice.result.now in
-    let given_is : given ≡ c.args.self.judged = c.as_slice.ensures in
-    let numbered_given : are_numbered given room.dues.items ≡ true = subst (λ (judged : List BareJudgement). are_numbered judged room.dues.items ≡ true) (sym given_is) fits.numbered in
-    let judged : List BareJudgement = c.in_room-judged.result.now in
-    let all_told : Told given bodies room.dues.items (judged_of setting envelope session) = told-so given bodies room.dues.items (judged_of setting envelope session) (given_is ∙ has.are) fits.due in
+    let judged : List BareJudgement = c.as_slice-judged.result.now in
+    let judged_is : judged ≡ c.args.self.judged = c.as_slice-judged.ensures in
+    let all_told : Told judged bodies room.dues.items (judged_of setting envelope session) = told-so judged bodies room.dues.items (judged_of setting envelope session) (judged_is ∙ has.are) fits.due in
     let told : List Judgement = all_told.told in
-    let few = told-few given bodies room.dues.items told all_told.are all_told.due in
-    let dues_are : c.as_slice-2.result.now ≡ room.dues.items = c.as_slice-2.ensures.value in
-    let L : List Due → Type 0 = λ dues. length given ≤ length dues in
-    let R : List Due → Type 0 = λ dues. are_numbered given dues ≡ true in
-    let same : judged ≡ given = c.in_room-judged.ensures.all (subst L (sym dues_are) few.1) (subst R (sym dues_are) numbered_given) in
-    let is : judged ≡ map bare_judgement told = same ∙ all_told.are in
-    let long : length told ≡ length c.args.self.judged = sym few.0 ∙ ap (λ (judged : List BareJudgement). length judged) given_is in
+    let few = told-few judged bodies room.dues.items told all_told.are all_told.due in
+    let long : length told ≡ length c.args.self.judged = sym few.0 ∙ ap (λ (judged : List BareJudgement). length judged) judged_is in
     let none : room.speech.owing.messages ≡ [] = ap (λ (dues : Dues). dues.messages) c.requires.room.taken.speech.owing in
     let nothing : room.entries.entries ≡ [] = ap (λ (held : Held). held.entries) c.requires.room.taken.entries in
     let first = begins-taking setting envelope c.args.self.others c.args.self.standing (turn_in room) c.args.jobs.now.jobs c.args.bindings.now.bindings c.args.draw.now
@@ -187,12 +180,12 @@ returns-clause-given g c = λ keys envelope among of has fits.
     let begins : SpeaksAmong now c.args.self.others c.opens.new.standing c.opens.new.self lent_jobs lent_bindings c.opens.new.draw opened = record {
       others = has.heard.others;
       speaks = lent-speaks jobs_are bindings_are (c.opens.ensures.speaks keys c.args.jobs.now.jobs c.args.bindings.now.bindings (remembers_among history among).speaker told
-          (c.as_slice-3.ensures.value ∙ c.acks_in.ensures.acks told is) first);
+          (c.as_slice.ensures.value ∙ c.acks_in.ensures.acks told all_told.are) first);
     } in
     let settling = opened-settling keeps c.packets_are_judged.ensures.opened c.packets_are_judged.ensures.told setting envelope room.limit told among has.alone has.order all_told.same
     (omega (arith, long, fits.few)) in
     let of_ring = subst (λ (ring : List RingKey). AreOf ring keys) (sym c.ring.ensures) of in
-    let all = c.settles_all.ensures.settled keys name history told bodies opened of_ring is all_told.due settling begins in
+    let all = c.settles_all.ensures.settled keys name history told bodies opened of_ring all_told.are all_told.due settling begins in
     let taken : Among D = takes_among setting envelope among in
     let P : List Judgement → Type 0 = λ judged. SpeaksAmong now c.settles_all.new.self.others c.settles_all.new.self.speaking.standing c.settles_all.new.self.speaking.turn c.settles_all.new.self.speaking.jobs.jobs
     c.settles_all.new.self.speaking.bindings.bindings c.settles_all.new.draw (all_settled setting judged bodies (speaks_among (opens setting history judged) among)) in

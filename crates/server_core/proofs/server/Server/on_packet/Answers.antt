@@ -45,7 +45,7 @@ returns-in-None-clause-given g c = λ keys server envelope of is opens.
     let early : latest ≤ latest_moment = subst (λ (at : ℕ). at ≤ latest_moment) moment c.is_early.ensures in
     does V D lock ring c.takes_new.new.self c.takes_new.new.draw (λ (reply : Reply). effects_in reply) (after_packet setting (brought_in envelope) server draw) c.takes_new.result
     (c.events_keep_order.ensures.packet setting (brought_in envelope) server draw early is.between)
-    (subst E same (subst N moment (c.takes_new.ensures.given keys server of is.stands is.between.order)))
+    (subst E same (subst N moment (c.takes_new.ensures.given keys server of is)))
 
 pub returns-clause-given : goal.returns-clause-given
 returns-clause-given g c = λ keys server envelope of is opens.
@@ -72,7 +72,7 @@ returns-clause-given g c = λ keys server envelope of is opens.
     let early : latest ≤ latest_moment = subst (λ (at : ℕ). at ≤ latest_moment) moment c.is_early.ensures in
     does V D lock ring c.takes_at.new.self c.takes_at.new.draw (λ (reply : Reply). effects_in reply) (after_packet setting (brought_in envelope) server draw) c.takes_at.result
     (c.events_keep_order.ensures.packet setting (brought_in envelope) server draw early is.between)
-    (subst E same (subst N moment (c.takes_at.ensures.given keys server of is.stands is.between.order)))
+    (subst E same (subst N moment (c.takes_at.ensures.given keys server of is)))
 
 pub returns-in-Refused-clause-given : goal.returns-in-Refused-clause-given
 returns-in-Refused-clause-given g c = λ keys server envelope of is opens.

@@ -1,8 +1,7 @@
-use Rattle.std.proofs.Common.{◌≡◌, ◌∙◌, ◌+◌, ◌≤◌, ℕ, true, Some, List, length, map, ap, sym, subst, arith}
+use Rattle.std.proofs.Common.{◌≡◌, ◌∙◌, ◌+◌, ◌≤◌, ℕ, Some, List, length, map, ap, sym, subst, arith}
 use Rattle.std.specs.List.{insert, position, remove}
 use Rattle.std.proofs.lemmas.List.Edits.{length-remove}
 use Rattle.auth_keys.specs.declared.ring.RingKey.{RingKey}
-use Rattle.inbox.specs.declared.judged.Judgement.{Judgement as BareJudgement}
 use Rattle.inbox.specs.Verdicts.{Judgement, bare_judgement}
 use Rattle.server_dispatch.specs.declared.dues.Due.{Due}
 use Rattle.server_dispatch.specs.Rings.{AreOf}
@@ -21,15 +20,14 @@ use Rattle.server_core.specs.Failures.{blocked_of}
 use Rattle.server_core.specs.Packets.{Fits, bodies_of, brought, judged_of, kept_so}
 use Rattle.server_core.specs.Room.{dues_in}
 use Rattle.ring_rules.specs.Binding.{keys_of}
-use Rattle.server_core.specs.Server.{IsSteady, Kept, Stands}
+use Rattle.server_core.specs.Server.{IsSteady, Kept, Stands, StandsFor}
 use Rattle.server_core.specs.Sessions.{AreApart, is_kept_as}
-use Rattle.server_core.specs.SettlingAll.{AreDue, are_numbered}
+use Rattle.server_core.specs.SettlingAll.{AreDue}
 use Rattle.server_core.proofs.HeardLemmas.{back-at, beside-known, can-judged, can-lent, fits-few, heard-blocked, judged-so}
 use Rattle.server_core.proofs.Lists.{place-is}
-use Rattle.server_core.proofs.PacketDues.{are-due, same-numbers}
+use Rattle.server_core.proofs.PacketDues.{are-due}
 use Rattle.server_core.proofs.Speaking.{kept-later, sessions-have_room}
-use Rattle.server_core.proofs.Steady.{sound-of, steady-by}
-use Rattle.server_core.proofs.Taken.{told-few}
+use Rattle.server_core.proofs.Steady.{no_keys, sound-of, steady-by}
 use Rattle.server_core.proofs.server.Server.takes_at.Goals as goal
 
 pub hears_known-others-requires : goal.hears_known-others-requires
@@ -72,9 +70,18 @@ answers-sessions-requires g c =
     let lt : c.self.inside.moment ≤ moment = subst (λ (old : ℕ). old ≤ moment) (sym (ap (λ (kept : K). kept.moment) c.self.view_is)) c.requires.later in
     let can = can-lent ring c.self.inside.moment standings place one c.self.invariant.speaking at.1 (c.hears_known-others.ensures.at_place one) in
     let after : SessionState = c.judges_in_room.new.standing in
+    let D : Type 0 = g.row.D.Denot in
+    let server = c.self.invariant.server in
+    let setting : Setting D = setting_of moment g.D.Draw.step no_keys in
+    let envelope : Envelope = brought c.args.name.key c.args.name.session c.args.outer.now in
+    let draw = c.args.draw.now in
+    let are = kept-later laws.later c.self.inside.moment moment standings server.sessions lt c.self.invariant.stands_for.stands.sessions in
+    let heard : Among D = heard_among setting envelope (begun server draw) in
+    let is_heard = c.hears_known-others.ensures.heard setting envelope server draw are placed in
     record {
       speaking = can-judged ring c.self.inside.moment moment one after can c.in-Ok.ensures.same_name c.in-Ok.ensures.same_numbers c.in-Ok.ensures.at;
       room = c.in-Ok.ensures.room;
+      fitting = c.in-Ok.ensures.fitting heard.speaker.session is_heard.stands;
       beside =
           beside-known laws.at ring c.self.inside.moment moment name standings c.hears_known-others.result.0 place after lt (sound-of ring _ c.self.invariant) at.1
           c.hears_known-others.ensures.removed (c.hears_known-others.ensures.others name placed) (c.in-Ok.ensures.same_name ∙ c.hears_known-others.ensures.named name placed);
@@ -133,7 +140,9 @@ returns-in-Err-clause-unchanged_on_memory g c =
     ∙ (ap (λ (bindings : List Binding). kept_so seal before standings c.self.inside.jobs.jobs bindings) c.in-Err.ensures.same_bindings ∙ c.self.view_is))
 
 pub returns-in-Ok-clause-given : goal.returns-in-Ok-clause-given
-returns-in-Ok-clause-given g c = λ keys server of stands order.
+returns-in-Ok-clause-given g c = λ keys server of is.
+    let stands = is.stands in
+    let order = is.between.order in
     let V : Type 0 = g.row.S.Denot in
     let D : Type 0 = g.row.D.Denot in
     let K : Type 0 = Kept V in
@@ -172,20 +181,17 @@ returns-in-Ok-clause-given g c = λ keys server of stands order.
     let due_is : taken.dues.items ≡ dues_in (mark_in session envelope.number) (message_in envelope) = c.in-Ok.ensures.dues session is_heard.stands in
     let E : List Due → Type 0 = λ dues. AreDue told bodies dues in
     let due : AreDue told bodies taken.dues.items = subst E (sym due_is) (are-due (way_of setting envelope session) (remembered session) (message_in envelope)) in
-    let enough = told-few judged bodies taken.dues.items told judged_is due in
+    let fitting = c.in-Ok.ensures.fitting session is_heard.stands in
     let named_so : name_kept one ≡ name = c.hears_known-others.ensures.named name placed in
     let limit_is : taken.limit ≡ blocked_of name server.jobs + length taken.dues.items =
     c.in-Ok.ensures.limit
     ∙ (ap (λ (name : Name). blocked_of name c.self.inside.jobs.jobs + length taken.dues.items) named_so
     ∙ ap (λ (jobs : Queue). blocked_of name jobs + length taken.dues.items) inside.jobs) in
-    let A : List BareJudgement → Type 0 = λ judged. are_numbered judged taken.dues.items ≡ true in
-    let N : List Due → Type 0 = λ dues. are_numbered (map bare_judgement told) dues ≡ true in
     let fits : Fits setting envelope judged taken heard = record {
       due = due;
-      numbered = subst A (sym judged_is) (subst N (sym due_is) (same-numbers (way_of setting envelope session) (remembered session) (message_in envelope)));
       few =
           fits-few (blocked_of name server.jobs) (blocked_of name heard.speaker.jobs) (length judged) (length taken.dues.items) taken.limit limit_is
-          (heard-blocked setting envelope (session_named name server.sessions) (begun server draw)) enough.1;
+          (heard-blocked setting envelope (session_named name server.sessions) (begun server draw)) fitting.few;
     } in
     let given = c.answers-sessions.ensures.given keys envelope heard of_ring has fits in
     let same : after_packet setting envelope server draw ≡ ended_among setting (takes_among setting envelope heard) =
@@ -211,6 +217,6 @@ invariant_of-self g c =
     let keys = keys_of ring in
     let setting : Setting D = setting_of c.args.moment g.D.Draw.step keys in
     let envelope : Envelope = brought c.args.name.key c.args.name.session c.args.outer.now in
-    let given = returns-in-Ok-clause-given g c keys old.server (c.rings_have_keys.ensures ring) (subst (λ (kept : K). Stands kept old.server) c.self.view_is old.stands_for.stands) old.stands_for.between.order in
+    let given = returns-in-Ok-clause-given g c keys old.server (c.rings_have_keys.ensures ring) (subst (λ (kept : K). StandsFor kept old.server) c.self.view_is old.stands_for) in
     steady-by {S = V} (g.S.Seal.keys c.self.inside.seal) _ (after_packet setting envelope old.server c.args.draw.now).server c.answers-sessions.ensures.sound
     given.stands (c.events_keep_order.ensures.packet setting envelope old.server c.args.draw.now c.is_early.ensures old.stands_for.between)

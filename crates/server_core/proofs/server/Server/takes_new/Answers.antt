@@ -1,15 +1,14 @@
-use Rattle.std.proofs.Common.{◌≡◌, ◌∙◌, ◌+◌, ◌≤◌, ℕ, true, None, Result, Ok, Err, List, length, map, ap, sym, subst, refl, arith}
+use Rattle.std.proofs.Common.{◌≡◌, ◌∙◌, ◌+◌, ◌≤◌, ℕ, None, Result, Ok, Err, List, length, map, ap, sym, subst, refl, arith}
 use Rattle.std.specs.List.{position}
 use Rattle.std.specs.Prelude.{IfOk, IsErrAnd, IsSome, OnErr}
 use Rattle.auth_keys.specs.declared.ring.RingKey.{RingKey}
 use Rattle.auth_keys.specs.Rings.{entry_of}
-use Rattle.inbox.specs.declared.judged.Judgement.{Judgement as BareJudgement}
 use Rattle.inbox.specs.Verdicts.{Judgement, bare_judgement}
 use Rattle.server_dispatch.specs.declared.dues.Due.{Due}
 use Rattle.server_dispatch.specs.Rings.{AreOf}
 use Rattle.waits.specs.Held.{Held}
 use Rattle.waits.specs.Jobs.{Queue}
-use Rattle.server_rules.specs.Answer.{Answer, after_packet, begun, message_in}
+use Rattle.server_rules.specs.Answer.{Answer, after_packet, begun, message_in, session_for}
 use Rattle.server_rules.specs.Event.{Envelope, Setting, State}
 use Rattle.server_rules.specs.Server.{Binding, Name, Session, mark_in, remembered, session_named}
 use Rattle.law_server.specs.Order.{jobs_of}
@@ -23,16 +22,15 @@ use Rattle.server_core.specs.Failures.{blocked_of}
 use Rattle.server_core.specs.Packets.{Fits, bodies_of, brought, judged_of, kept_so}
 use Rattle.server_core.specs.Room.{CanTake, dues_in}
 use Rattle.ring_rules.specs.Binding.{keys_of}
-use Rattle.server_core.specs.Server.{CanSpeak, Kept, Stands}
+use Rattle.server_core.specs.Server.{CanSpeak, Kept, Stands, StandsFor}
 use Rattle.server_core.specs.Sessions.{is_kept_as}
-use Rattle.server_core.specs.SettlingAll.{AreDue, are_numbered}
+use Rattle.server_core.specs.SettlingAll.{AreDue}
 use Rattle.server_core.proofs.HeardLemmas.{beside-new, can-judged, fits-few, heard-blocked, heard-new, judged-so}
 use Rattle.server_core.proofs.Lists.{no-place}
 use Rattle.server_core.proofs.Names.{name-by}
-use Rattle.server_core.proofs.PacketDues.{are-due, same-numbers}
+use Rattle.server_core.proofs.PacketDues.{are-due}
 use Rattle.server_core.proofs.Speaking.{kept-later, none-at, sessions-have_room}
-use Rattle.server_core.proofs.Steady.{sound-of, steady-by}
-use Rattle.server_core.proofs.Taken.{told-few}
+use Rattle.server_core.proofs.Steady.{no_keys, sound-of, steady-by}
 use Rattle.server_core.proofs.server.Server.takes_new.Goals as goal
 
 pub answers-sessions-requires : goal.answers-sessions-requires
@@ -58,9 +56,15 @@ answers-sessions-requires g c =
       numbers = omega (arith, c.in_ok-standing.ensures.numbers);
       at = c.in_ok-standing.ensures.at;
     } in
+    let D : Type 0 = g.row.D.Denot in
+    let outer = c.args.outer.now in
+    let setting : Setting D = setting_of moment g.D.Draw.step no_keys in
+    let envelope : Envelope = brought c.args.name.key c.args.name.session outer in
     record {
       speaking = can-judged ring moment moment one after can c.in_ok-both.ensures.same_name c.in_ok-both.ensures.same_numbers c.in_ok-both.ensures.at;
       room = subst J (sym c.in_ok-others.ensures.same_job_room) c.in_ok-both.ensures.room;
+      fitting =
+          c.in_ok-both.ensures.fitting (session_for setting envelope c.args.draw.now) (c.in_ok-standing.ensures.stands no_keys outer.salt outer.seq outer.body);
       beside =
           beside-new laws.at ring c.self.inside.moment moment name standings c.in_ok-others.others after lt (sound-of ring _ c.self.invariant) outside
           c.in_ok-others.ensures.others (c.in_ok-both.ensures.same_name ∙ named_so);
@@ -90,11 +94,13 @@ none-given Q P (Ok value) is = absurd is
 none-given Q P (Err error) is = tt
 
 pub returns-in_err-others-clause-given : goal.returns-in_err-others-clause-given
-returns-in_err-others-clause-given g c = λ keys server of stands order.
+returns-in_err-others-clause-given g c = λ keys server of is.
     none-given _ _ c.from_residual-in_err-others.result c.from_residual-in_err-others.ensures.1
 
 pub returns-clause-given : goal.returns-clause-given
-returns-clause-given g c = λ keys server of stands order.
+returns-clause-given g c = λ keys server of is.
+    let stands = is.stands in
+    let order = is.between.order in
     let V : Type 0 = g.row.S.Denot in
     let D : Type 0 = g.row.D.Denot in
     let K : Type 0 = Kept g.row.S.Denot in
@@ -140,19 +146,16 @@ returns-clause-given g c = λ keys server of stands order.
     let due_is : taken.dues.items ≡ dues_in (mark_in session envelope.number) (message_in envelope) = c.in_ok-both.ensures.dues session is_heard.stands in
     let E : List Due → Type 0 = λ dues. AreDue told bodies dues in
     let due : AreDue told bodies taken.dues.items = subst E (sym due_is) (are-due (way_of setting envelope session) (remembered session) (message_in envelope)) in
-    let enough = told-few judged bodies taken.dues.items told judged_is due in
+    let fitting = c.in_ok-both.ensures.fitting session is_heard.stands in
     let limit_is : taken.limit ≡ blocked_of name server.jobs + length taken.dues.items =
     c.in_ok-both.ensures.limit
     ∙ (ap (λ (name : Name). blocked_of name c.self.inside.jobs.jobs + length taken.dues.items) named_so
     ∙ ap (λ (jobs : Queue). blocked_of name jobs + length taken.dues.items) inside.jobs) in
-    let A : List BareJudgement → Type 0 = λ judged. are_numbered judged taken.dues.items ≡ true in
-    let N : List Due → Type 0 = λ dues. are_numbered (map bare_judgement told) dues ≡ true in
     let fits : Fits setting envelope judged taken heard = record {
       due = due;
-      numbered = subst A (sym judged_is) (subst N (sym due_is) (same-numbers (way_of setting envelope session) (remembered session) (message_in envelope)));
       few =
           fits-few (blocked_of name server.jobs) (blocked_of name heard.speaker.jobs) (length judged) (length taken.dues.items) taken.limit limit_is
-          (heard-blocked setting envelope (session_named name server.sessions) state) enough.1;
+          (heard-blocked setting envelope (session_named name server.sessions) state) fitting.few;
     } in
     let given = c.answers-sessions.ensures.given keys envelope heard of_ring has fits in
     let same : after_packet setting envelope server draw ≡ ended_among setting (takes_among setting envelope heard) =
@@ -173,6 +176,6 @@ invariant_of-self-2 g c =
     let keys = keys_of ring in
     let setting : Setting D = setting_of c.args.moment g.D.Draw.step keys in
     let envelope : Envelope = brought c.args.name.key c.args.name.session c.args.outer.now in
-    let given = returns-clause-given g c keys old.server (c.rings_have_keys.ensures ring) (subst (λ (kept : K). Stands kept old.server) c.self.view_is old.stands_for.stands) old.stands_for.between.order in
+    let given = returns-clause-given g c keys old.server (c.rings_have_keys.ensures ring) (subst (λ (kept : K). StandsFor kept old.server) c.self.view_is old.stands_for) in
     steady-by {S = V} (g.S.Seal.keys c.self.inside.seal) _ (after_packet setting envelope old.server c.args.draw.now).server c.answers-sessions.ensures.sound
     given.stands (c.events_keep_order.ensures.packet setting envelope old.server c.args.draw.now c.is_early.ensures old.stands_for.between)

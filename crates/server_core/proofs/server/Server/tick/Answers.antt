@@ -68,4 +68,4 @@ returns-else-overdue-eq0-clause-given g c = λ keys server is.
     (c.events_keep_order.ensures.tick setting server draw early is.between)
     (subst (λ (now : ℕ). IfOk c.ticks_due.result (λ effects. Gives {S = g.row.S.Denot} {D = D} lock ring
     c.ticks_due.new.self c.ticks_due.new.draw effects (after_tick (setting_of now g.D.Draw.step keys) server draw)))
-    moment (c.ticks_due.ensures.given keys server is.stands is.between.order))
+    moment (c.ticks_due.ensures.given keys server is))

@@ -15,7 +15,7 @@ use Rattle.server_core.specs.Effects.{Gives}
 use Rattle.server_core.specs.Losing.{IsHere}
 use Rattle.server_core.specs.One.{answer_of}
 use Rattle.server_core.specs.Reserving.{AreFresh, AreReserved}
-use Rattle.server_core.specs.Server.{Kept, Stands}
+use Rattle.server_core.specs.Server.{Kept, Stands, StandsFor}
 use Rattle.server_core.proofs.Speaking.{kept-later}
 use Rattle.server_core.proofs.TickStart.{can-here, here-speaking, here-with, reserved-all, sending-starts, speaking-here, spent-rest, tick-room, tick-starts}
 use Rattle.server_core.proofs.TickTurnSteps.{can-send}
@@ -53,7 +53,9 @@ sends-requires-clause-sendable g c =
     can-send ring moment two.sessions two.self.list.items two.self.order.items two.self.entries.room c.answers_all.ensures.voices (c.answers_all.ensures.here ring here_after)
 
 pub returns-clause-given : goal.returns-clause-given
-returns-clause-given g c = λ keys server stands order.
+returns-clause-given g c = λ keys server is.
+    let stands = is.stands in
+    let order = is.between.order in
     let V : Type 0 = g.row.S.Denot in
     let D : Type 0 = g.row.D.Denot in
     let K : Type 0 = Kept V in
@@ -141,7 +143,7 @@ invariant_of-self-2 g c =
     let K : Type 0 = Kept V in
     let old = c.self.invariant in
     let setting : Setting D = setting_of moment g.D.Draw.step no_keys in
-    let given = returns-clause-given g c no_keys old.server (subst (λ (kept : K). Stands kept old.server) c.self.view_is old.stands_for.stands) old.stands_for.between.order in
+    let given = returns-clause-given g c no_keys old.server (subst (λ (kept : K). StandsFor kept old.server) c.self.view_is old.stands_for) in
     steady-by {S = V} ring _ (after_tick setting old.server c.args.draw.now).server
     (record {
       few = omega arith;

@@ -58,4 +58,4 @@ returns-clause-given g c = λ keys server is.
     (λ short. c.runs_keep_order.ensures setting c.args.k serve service server draw early short is.between)
     (subst (λ (now : ℕ). IfOk c.work_at.result (λ effects. Gives {S = g.row.S.Denot} {D = D} lock ring
     c.work_at.new.self c.work_at.new.draw effects (after_work (setting_of now g.D.Draw.step keys) c.args.k serve service server draw).0))
-    moment (c.work_at.ensures.given keys server is.stands is.between.order))
+    moment (c.work_at.ensures.given keys server is))

@@ -21,7 +21,7 @@ use Rattle.server_core.specs.Effects.{Gives}
 use Rattle.server_core.specs.Failures.{blocked_of}
 use Rattle.server_core.specs.One.{answer_of, lost_where}
 use Rattle.server_core.specs.Sessions.{AreKept, is_kept_as}
-use Rattle.server_core.specs.Server.{CanSpeak, IsSound, Kept, Stands, without_kept_where}
+use Rattle.server_core.specs.Server.{CanSpeak, IsSound, Kept, Stands, StandsFor as StandsForServer, without_kept_where}
 use Rattle.server_core.specs.Speech.{Begins}
 use Rattle.server_core.specs.Working.{Ends, IsRunning, worked}
 use Rattle.server_core.proofs.Attached.{drawn-where, ends-so, entered-where, sent-where}
@@ -53,7 +53,9 @@ lose_spent-requires g c =
     omega (arith, at.1)
 
 pub returns-clause-given : goal.returns-clause-given
-returns-clause-given g c = λ keys server stands order.
+returns-clause-given g c = λ keys server is.
+    let stands = is.stands in
+    let order = is.between.order in
     let V : Type 0 = g.row.S.Denot in
     let D : Type 0 = g.row.D.Denot in
     let W : Type 0 = g.row.V.Denot in
@@ -240,9 +242,9 @@ invariant_of-self-2 g c =
     let old = c.self.invariant in
     let serve = g.V.Service.step in
     let setting : Setting D = setting_of c.args.moment g.D.Draw.step no_keys in
-    let stands = subst (λ (kept : K). Stands kept old.server) c.self.view_is old.stands_for.stands in
-    let given = returns-clause-given g c no_keys old.server stands old.stands_for.between.order in
-    let short = λ (job : Job) (ready : ready_job c.args.job.k old.server.jobs ≡ Some job). returns-clause-short g c job (ap (ready_job c.args.job.k) stands.jobs ∙ ready) in
+    let stands_for = subst (λ (kept : K). StandsForServer kept old.server) c.self.view_is old.stands_for in
+    let given = returns-clause-given g c no_keys old.server stands_for in
+    let short = λ (job : Job) (ready : ready_job c.args.job.k old.server.jobs ≡ Some job). returns-clause-short g c job (ap (ready_job c.args.job.k) stands_for.stands.jobs ∙ ready) in
     steady-by {S = V} ring _ (after_work setting c.args.job.k serve c.args.service.now old.server c.args.draw.now).0.server
     (subst (λ (standings : List SessionState). IsSound ring c.args.moment standings) (sym sessions_are) sound)
     given.stands (c.runs_keep_order.ensures setting c.args.job.k serve c.args.service.now old.server c.args.draw.now c.is_early.ensures short old.stands_for.between)
