@@ -73,7 +73,7 @@ impl SimWorld {
         ensures { StandsFor self (begins sim_setting 0) → IfOk result (λ loaded. StandsFor loaded (load sim_setting 0 calls)) }
     {
         setting_of_sim();
-        let world = sim_world::load(alloc, self.world, calls)?;
+        let world = sim_load::load(alloc, self.world, calls)?;
         Ok(SimWorld { world })
     }
 

@@ -8,12 +8,3 @@ pub mod Serve
 pub mod ServeNames
 pub mod Give
 pub mod GiveEnds
-pub mod Lines
-pub mod Counting
-pub mod GivenLemmas
-pub mod PlainClients
-pub mod PlainTaking
-pub mod PlainFilling
-pub mod PlainFlushes
-pub mod PlainWorlds
-pub mod LoadSteps

@@ -3,7 +3,3 @@ pub mod Worlds
 pub mod Told
 pub mod Drawn
 pub mod Families
-pub mod Bags
-pub mod Given
-pub mod Loading
-pub mod Plain

@@ -23,7 +23,7 @@ impl<S: Seal, V: Service, D: Draw> World<S, V, D> {
         ensures told { (setting : Setting D V) (world : Rules D V) → Stands setting self.now world → OnOk result (into.new ≡ into.old ++ whole_report setting wire world) }
         ensures unchanged_on_memory { OnErr result (into.new ≡ into.old) }
     {
-        crate::telling::report::<S, V, D>(alloc, &self.host, &self.seats, wire, into)
+        sim_report::report::<S, V, D>(alloc, &self.host, &self.seats, wire, into)
     }
 
     /// Puts the summary behind a text, one line.
@@ -35,6 +35,6 @@ impl<S: Seal, V: Service, D: Draw> World<S, V, D> {
         ensures told { (setting : Setting D V) (world : Rules D V) → Stands setting self.now world → OnOk result (into.new ≡ into.old ++ summary setting world) }
         ensures unchanged_on_memory { OnErr result (into.new ≡ into.old) }
     {
-        crate::telling::summary::<S, V, D>(alloc, &self.host, &self.seats, into)
+        sim_report::summary::<S, V, D>(alloc, &self.host, &self.seats, into)
     }
 }
