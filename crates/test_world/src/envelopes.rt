@@ -45,6 +45,9 @@ const CLEAR_PACKET: [u8; 72] = [
     0x2d, 0xf4, 0x51, 0x58, 0x5a, 0xfe, 0x2a, 0x99,
 ];
 
+/// The most bytes of a body that a seal takes.
+const BODY_MAX: usize = 1_044_480;
+
 fn envelope(alloc: Global, number: u64) -> Result<Envelope, Memory>
     ensures { IfOk result (λ envelope. (envelope.key ≡ KEY_ID) × (length envelope.body ≡ 4)) }
 {
@@ -201,13 +204,24 @@ fn there_and_back<S: Seal, D: Draw>(
     }
 }
 
+/// The packet of an envelope, under a key that the seal has.
+pub(crate) fn sealed<S: Seal>(
+    alloc: Global,
+    seal: &S,
+    dir: Dir,
+    envelope: &Envelope,
+) -> Result<Octets, Fail> {
+    let len = envelope.body.as_slice().len();
+    if !seal.has(envelope.key) || len % 4 != 0 || len > BODY_MAX {
+        return Err(Fail::new("no packet"));
+    }
+    Ok(seal.seal(alloc, dir, envelope, &mut StepDraw::new())?)
+}
+
 // The packet of the message of this number.
 fn packet_of<S: Seal>(alloc: Global, seal: &S, dir: Dir, number: u64) -> Result<Octets, Fail> {
-    if !seal.has(KEY_ID) {
-        return Err(Fail::new("no key"));
-    }
     let envelope = envelope(alloc, number)?;
-    Ok(seal.seal(alloc, dir, &envelope, &mut StepDraw::new())?)
+    sealed(alloc, seal, dir, &envelope)
 }
 
 #[test]

@@ -34,7 +34,7 @@ calls 0 done 0 refused 0 unknown 0 runs 1 packets 2 bytes 3
 ";
 
 /// The packets `a` and `bc`.
-#[derive(Debug, Drop)]
+#[derive(Drop)]
 struct Letters {
     first: [u8; 1],
     second: [u8; 2],

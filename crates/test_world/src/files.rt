@@ -2,15 +2,13 @@
 
 use crate::desks::{Server, disk, seal};
 use crate::play::created;
+use crate::reading::HEADER;
 use msg_ids::Moment;
 use octets::Octets;
 use sess_records::JournalFault;
 use std::alloc::Global;
 use std::test::Fail;
 use test_asserts::{same, same_at};
-
-/// The header of a zero seed, without its gate.
-const HEADER: &[u8] = b"mtpsess1\0\0\0\0\0\0\0\0\0\0\0\0\0\0\0\0\0\0\0\0\0\0\0\0\0\0\0\0\0\0\0\0";
 
 /// A new journal: the header and a closed gate.
 const NEW: &[u8] = b"mtpsess1\0\0\0\0\0\0\0\0\0\0\0\0\0\0\0\0\0\0\0\0\0\0\0\0\0\0\0\0\0\0\0\0\0";
@@ -45,7 +43,7 @@ fn record(name: &str) -> Result<&'static [u8], Fail> {
 
 /// A file of a zero seed with the records of these names, each with its gate before it, and a closed gate.
 fn file(alloc: Global, names: &str) -> Result<Octets, Fail> {
-    let mut file = Octets::copy(alloc, HEADER)?;
+    let mut file = Octets::copy(alloc, &HEADER)?;
     for name in names.split(' ') {
         file.push_all(alloc, &[1])?;
         file.push_all(alloc, record(name)?)?;

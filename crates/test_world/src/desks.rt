@@ -1,8 +1,9 @@
 //! A server with a journal in memory, and a client's packets to it.
 
+use crate::envelopes::sealed;
 use disks::MemDisk;
 use draws::StepDraw;
-use envelope::{ClearSeal, Dir, Envelope, Seal};
+use envelope::{ClearSeal, Dir, Envelope};
 use octets::Octets;
 use sess_journal::Kept;
 use std::alloc::Global;
@@ -17,9 +18,6 @@ const SALT: u64 = 12_728_272_447_693_586_010;
 
 /// The session of the messages.
 pub(crate) const SESSION: u64 = 9;
-
-/// The most bytes of a body that a seal takes.
-const BODY_MAX: usize = 1_044_480;
 
 /// The call 4, which adds 5 to `x`.
 const ADD_X_5: &[u8] = b"\x01\x2c\x1b\x0a\x01x\0\0\x05\0\0\0\0\0\0\0";
@@ -46,19 +44,10 @@ fn packet(alloc: Global, salt: u64, number: u64, seq: u32, body: &[u8]) -> Resul
         seq,
         body,
     };
-    let packet = sealed(alloc, &seal, &envelope);
+    let packet = sealed(alloc, &seal, Dir::Up, &envelope);
     drop(seal);
     drop(envelope);
     packet
-}
-
-/// The packet of an envelope under the key.
-fn sealed(alloc: Global, seal: &ClearSeal, envelope: &Envelope) -> Result<Octets, Fail> {
-    let len = envelope.body.as_slice().len();
-    if !seal.has(envelope.key) || len % 4 != 0 || len > BODY_MAX {
-        return Err(Fail::new("no packet"));
-    }
-    Ok(seal.seal(alloc, Dir::Up, envelope, &mut StepDraw::new())?)
 }
 
 /// The client's first packet: a call under a wrong salt.
