@@ -4,7 +4,7 @@ use octets::Memory;
 use statuses::Answer;
 
 /// Why no server is started.
-#[derive(Debug, Drop)]
+#[derive(Drop)]
 pub(crate) enum Halt {
     /// What was read is refused, and this is told.
     Refused(Answer),
@@ -26,7 +26,7 @@ impl From<Memory> for Halt {
 }
 
 /// Why a server isn't served to its end.
-#[derive(Clone, Copy, Debug)]
+#[derive(Clone, Copy)]
 pub(crate) enum KidFault {
     /// It couldn't be started, read or waited for, or ended with another status than 0.
     Failed,

@@ -11,7 +11,7 @@ use octets::Memory;
 use std::alloc::Global;
 
 /// What a server is told.
-#[derive(Clone, Copy, Debug)]
+#[derive(Clone, Copy)]
 pub(crate) struct Server<'a> {
     /// The file of the keys.
     pub(crate) keys: &'a str,

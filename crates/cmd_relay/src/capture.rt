@@ -43,7 +43,7 @@ impl fmt::Debug for Piece {
 }
 
 /// Why a text is no capture.
-#[derive(Clone, Copy, Debug, PartialEq, Eq)]
+#[derive(Clone, Copy)]
 pub(crate) enum CaptureFault {
     /// The first line that is outside the grammar.
     BadLine { line: u32 },

@@ -8,7 +8,7 @@ use framing::{Framing, Length};
 use transport::Form;
 
 /// What stands at the front of a text.
-#[derive(Clone, Copy, Debug)]
+#[derive(Clone, Copy)]
 pub(crate) enum Look {
     /// A whole frame of `size` bytes, whose packet stands from `start` to `end` and can go out.
     Packet {

@@ -12,7 +12,7 @@ use octets::Buffer;
 use transport::Form;
 
 /// How far the packets of a text went out.
-#[derive(Clone, Copy, Debug)]
+#[derive(Clone, Copy)]
 pub(crate) struct Passed {
     /// How many bytes their frames have.
     pub(crate) taken: usize,

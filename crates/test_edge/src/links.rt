@@ -170,7 +170,7 @@ fn clocks_go_on_with_their_last_moment(rt: HostRuntime) -> Result<(), Fail> {
 }
 
 /// A reader and writer that fails, but takes one byte at a time where `is_short`. It passes on at a flush alone.
-#[derive(Debug, Drop)]
+#[derive(Drop)]
 struct Odd {
     is_short: bool,
     fails_flush: bool,
